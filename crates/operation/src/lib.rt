@@ -6,7 +6,6 @@ ghost use Rattle.operation.specs.Meaning.{Meaning, Monoid, Packing, widest, wr
 pub mod affine;
 mod block;
 pub mod fault;
-pub mod figures;
 pub mod least;
 pub mod text;
 

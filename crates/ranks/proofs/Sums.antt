@@ -1,6 +1,6 @@
 -- Sums and maxima over the numbers below a bound.
-use Prim.Native.Nat.{ℕ, zero, suc, _+_, _*_, _≤_, _<_, min}
-use mathlib.Core.Path.{_≡_, refl, sym, ap, _∙_}
+use Prim.Native.Nat.{ℕ, zero, suc, _+_, _*_, _≤_, _<_, min, max}
+use mathlib.Core.Path.{_≡_, refl, sym, ap, ap₂, _∙_}
 use mathlib.Core.Logic.{_⊎_, inl, inr}
 use mathlib.Core.Bool.{Bool, true, false, cond}
 use native.Mathlib.Omega.{arith}
@@ -123,3 +123,7 @@ greatest-le f (suc n) c h = omega (arith, greatest-le f n c (λ k l. h k (omega 
 -- a bound that one place meets
 pub greatest-is : (f : ℕ → ℕ) (n c k : ℕ) → k < n → f k ≡ c → ((j : ℕ) → j < n → f j ≤ c) → greatest-below f n ≡ c
 greatest-is f n c k l e h = omega (arith, le-greatest f n k l, greatest-le f n c h)
+
+pub greatest-same : (f g : ℕ → ℕ) (n : ℕ) → ((i : ℕ) → i < n → f i ≡ g i) → greatest-below f n ≡ greatest-below g n
+greatest-same f g zero h = refl
+greatest-same f g (suc n) h = ap₂ max (greatest-same f g n (λ i k. h i (omega arith))) (h n (omega arith))

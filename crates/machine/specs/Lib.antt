@@ -1,0 +1,11 @@
+pub mod Operation
+pub mod Network
+pub mod Job
+pub mod Call
+pub mod Plain
+pub mod Record
+pub mod Replay
+pub mod Laws
+pub mod Runs
+pub mod Figures
+pub mod Sound

@@ -1,8 +1,0 @@
-// Worked figures, as one theorem.
-ghost use Rattle.operation.specs.Figures.{Figures};
-
-pub fn figures_hold() -> bool
-    ensures { λ _. ⌜ Figures ⌝ }
-{
-    true
-}

@@ -1,0 +1,12 @@
+pub mod Levels
+pub mod Label
+pub mod Rank
+pub mod Programme
+pub mod Formula
+pub mod Monoid
+pub mod Message
+pub mod Solved
+pub mod Outcome
+pub mod Answer
+pub mod Progress
+pub mod Figures

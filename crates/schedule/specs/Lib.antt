@@ -1,0 +1,2 @@
+pub mod Collective
+pub mod Part
