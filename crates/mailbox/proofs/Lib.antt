@@ -1,0 +1,4 @@
+pub mod Boxes
+pub mod Calls
+pub mod Rows
+pub mod Writes

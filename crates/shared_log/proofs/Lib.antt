@@ -1,0 +1,3 @@
+pub mod Calls
+pub mod Gaps
+pub mod Rows
