@@ -1,0 +1,12 @@
+pub mod Onward
+pub mod Carrying
+pub mod Shown
+pub mod Counting
+pub mod Turning
+pub mod Situation
+pub mod Leaving
+pub mod Looking
+pub mod Fitness
+pub mod Starting
+pub mod Results
+pub mod Ending
