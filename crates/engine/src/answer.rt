@@ -5,9 +5,11 @@ ghost use Rattle.engine.specs.Answers.{turn-refusal, start-refusal, end-refusa
 ghost use Rattle.engine.specs.declared.answer.StartFault.the-variants.{BadBlock as Refused};
 use engine_parts::inputs::BadBlock;
 use operation::fault::BlockFault;
+use operation::fault::BlockFaultDebug;
+use operation::fault::BlockFaultPartialEq;
 
 // What a turn came to.
-#[derive(Clone, Copy)]
+#[derive(Clone, Copy, PartialEq, Eq, Debug)]
 pub enum Turn {
     Sent,
     Took,
@@ -18,25 +20,25 @@ pub enum Turn {
 }
 
 // The rounds and the messages of a job.
-#[derive(Clone, Copy)]
+#[derive(Clone, Copy, PartialEq, Eq, Debug)]
 pub struct Tally {
     pub rounds: u32,
     pub messages: usize,
 }
 
 // No pending job has the token's name and number.
-#[derive(Clone, Copy)]
+#[derive(Clone, Copy, PartialEq, Eq, Debug)]
 pub struct UnknownJob;
 
 // Why a turn is refused.
-#[derive(Clone, Copy)]
+#[derive(Clone, Copy, PartialEq, Eq, Debug)]
 pub enum TurnFault {
     UnknownJob,
     BadRank,
 }
 
 // Why a start is refused.
-#[derive(Clone, Copy)]
+#[derive(Clone, Copy, PartialEq, Eq, Debug)]
 pub enum StartFault {
     // no ranks, blocks too wide, or something waited when the engine was made
     Unfit,
@@ -55,7 +57,7 @@ pub enum StartFault {
 }
 
 // Why an end is refused.
-#[derive(Clone, Copy)]
+#[derive(Clone, Copy, PartialEq, Eq, Debug)]
 pub enum EndFault {
     UnknownJob,
     // some rank has actions left

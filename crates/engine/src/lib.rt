@@ -1,18 +1,19 @@
 // An engine that runs collective jobs, over any operation and any transport.
 ghost use mathlib.Core.Path.{_≡_};
 ghost use mathlib.Core.Bool.{cond};
-ghost use Prim.Native.Nat.{_+_, _*_, _^_, _<_, _≤_};
+ghost use Prim.Native.Nat.{_+_, _*_, _^_, _<_, _≤_, max};
+ghost use lib.Dec.{eqb, ltb};
 ghost use lib.ListN.{length};
 ghost use Rattle.std.specs.shelf.Lists.{All};
 ghost use Rattle.programme.specs.declared.Action.the-variants.{Send, Take};
 ghost use Rattle.schedule.specs.Collective.{kind-of, root-of};
-ghost use Rattle.machine.specs.Plain.{fit, crowds, made, start, turn, sent, took, waits, carry, look, end, abandon};
+ghost use Rattle.machine.specs.Plain.{fit, crowds, tag-of, made, start, turn, sent, took, waits, carry, look, end, abandon};
 ghost use Rattle.machine.specs.Job.{listed};
 ghost use Rattle.machine.specs.Sound.{Proper};
 ghost use Rattle.engine_parts.specs.Outputs.{packed, written};
 ghost use Rattle.jobs.specs.declared.job.RankState.{RankState};
 ghost use Rattle.jobs.specs.Tables.{result-at, result-count};
-ghost use Rattle.machine.specs.Network.{Network};
+ghost use Rattle.machine.specs.Network.{Network, waiting-in-all};
 ghost use Rattle.machine.specs.Laws.{Record-laws};
 ghost use Rattle.engine.specs.Abs.{plain, Stands, Sound, Steps, Due, place-of, state-taken};
 ghost use Rattle.engine.specs.Answers.{start-answer, turn-answer, carry-answer, look-answer, end-answer, Handed-back, abandon-answer};
@@ -58,7 +59,7 @@ impl<O: Operation, T: Transport> Engine<O, T> {
         ensures fresh { λ r. ⌜ plain (O·Operation .meaning) (T·Transport .meaning) (T·Transport .meaning transport) r ≡ made name (O·Operation .meaning operation) (T·Transport .meaning transport) ⌝ }
         ensures laws { λ _. ⌜ Record-laws name (O·Operation .meaning operation) (T·Transport .meaning transport) ⌝ }
     {
-        let clean = transport.waiting() == 0;
+        let clean = is_empty(&transport);
         let jobs = Table::new(Job::blank(operation.unit()));
         Engine {
             transport,
@@ -104,8 +105,7 @@ impl<O: Operation, T: Transport> Engine<O, T> {
         }
         let room = self.transport.room();
         let pending = self.jobs.messages();
-        let messages = schedule.messages();
-        messages > room - pending
+        overfills(schedule.messages(), pending, room)
     }
 
     // Starts a job with a block of the words for each rank.
@@ -153,11 +153,25 @@ impl<O: Operation, T: Transport> Engine<O, T> {
         self.transport.carry(from, to)
     }
 
+    // Whether the token is one of this engine's.
+    fn is_named_by(&self, token: &Token) -> bool
+        ensures { λ r. ⌜ r ≡ eqb (now (token .entry) .name) (now (self .entry) .name) ⌝ }
+    {
+        token.name == self.name
+    }
+
+    fn has_rank(&self, rank: usize) -> bool
+        requires { ⌜ Sound (O·Operation .meaning) (T·Transport .meaning) (T·Transport .sound) (now self) ⌝ }
+        ensures { λ r. ⌜ r ≡ ltb rank (T·Transport .meaning (now (self .entry) .transport) .ranks) ⌝ }
+    {
+        rank < self.transport.ranks()
+    }
+
     // The place of the token's job.
     fn find(&self, token: &Token) -> Option<usize>
         ensures { λ r. ⌜ r ≡ place-of (O·Operation .meaning) (T·Transport .meaning) (now (self .entry)) (now (token .entry)) ⌝ }
     {
-        if token.name != self.name {
+        if !self.is_named_by(token) {
             return None;
         }
         self.jobs.find(token.number)
@@ -243,12 +257,12 @@ impl<O: Operation, T: Transport> Engine<O, T> {
         ensures { λ _. ⌜ Steps (O·Operation .meaning) (T·Transport .meaning) (T·Transport .sound) (now (self .entry)) (now (self .exit)) (turn (now (token .entry) .name) (now (token .entry) .number) rank) sent ⌝ }
     {
         let state = self.jobs.job(place).state(rank);
-        let stamp = state.departure.max(state.arrival) + 1;
+        let stamp = next_stamp(state.departure, state.arrival);
         let mail = Mail {
             stamp,
             value: state.value,
         };
-        let tag = 16 * token.number + label;
+        let tag = job_tag(token.number, label);
         // No reason to refuse a message of a pending job is left.
         match send_value(&self.operation, &mut self.transport, rank, to, tag, mail) {
             Ok(()) => {}
@@ -277,7 +291,7 @@ impl<O: Operation, T: Transport> Engine<O, T> {
         ensures { λ r. ⌜ Steps (O·Operation .meaning) (T·Transport .meaning) (T·Transport .sound) (now (self .entry)) (now (self .exit)) (turn (now (token .entry) .name) (now (token .entry) .number) rank) (cond r took waits) ⌝ }
     {
         let state = self.jobs.job(place).state(rank);
-        let tag = 16 * token.number + label;
+        let tag = job_tag(token.number, label);
         let Some(mail) = take_value(&self.operation, &mut self.transport, from, rank, tag) else {
             return false;
         };
@@ -296,7 +310,7 @@ impl<O: Operation, T: Transport> Engine<O, T> {
         let Some(place) = self.find(token) else {
             return Err(TurnFault::UnknownJob);
         };
-        if rank >= self.transport.ranks() {
+        if !self.has_rank(rank) {
             return Err(TurnFault::BadRank);
         }
         let Some(action) = self.jobs.job(place).next_action(rank) else {
@@ -316,6 +330,38 @@ impl<O: Operation, T: Transport> Engine<O, T> {
             }
         }
     }
+}
+
+// Whether nothing waits in a transport.
+fn is_empty<T: Transport>(transport: &T) -> bool
+    requires { ⌜ T·Transport .sound (now transport) ⌝ }
+    ensures { λ r. ⌜ r ≡ eqb (waiting-in-all (T·Transport .meaning (now (transport .entry)))) 0 ⌝ }
+{
+    transport.waiting() == 0
+}
+
+// The stamp of a rank's next message.
+fn next_stamp(departure: u32, arrival: u32) -> u32
+    requires { ⌜ (departure ≤ 66) × (arrival ≤ 66) ⌝ }
+    ensures { λ r. ⌜ r ≡ max departure arrival + 1 ⌝ }
+{
+    departure.max(arrival) + 1
+}
+
+// The tag of a job's message.
+fn job_tag(number: u32, label: u32) -> u32
+    requires { ⌜ (number ≤ 65535) × (label < 16) ⌝ }
+    ensures { λ r. ⌜ r ≡ tag-of number label ⌝ }
+{
+    16 * number + label
+}
+
+// Whether a job's messages and those pending are more than the room.
+fn overfills(messages: usize, pending: usize, room: usize) -> bool
+    requires { ⌜ pending ≤ room ⌝ }
+    ensures { λ r. ⌜ r ≡ ltb room (pending + messages) ⌝ }
+{
+    messages > room - pending
 }
 
 // Writes the blocks of what a finished job gives to the front of the lent words.

@@ -2,6 +2,7 @@
 ghost use mathlib.Core.Path.{_≡_};
 ghost use mathlib.Core.Bool.{true, false};
 ghost use Prim.Native.Nat.{ℕ, _+_, _-_, _<_, _≤_};
+ghost use lib.Dec.{ltb};
 ghost use lib.ListN.{length, getD, set, take, drop};
 ghost use Rattle.std.specs.Orderings.{Decides};
 ghost use Rattle.ranks.specs.Ranks.{most-ranks};
@@ -96,6 +97,13 @@ impl<T: Transport> Group<T> {
         below
     }
 
+    // Whether the group has any ranks.
+    fn has_ranks(&self) -> bool
+        ensures { λ r. ⌜ r ≡ ltb 0 (now (self .entry) .count) ⌝ }
+    {
+        0 < self.count
+    }
+
     // Two ranks of the group, as they are numbered below.
     fn pair_below(&self, from: usize, to: usize) -> (usize, usize)
         requires { ⌜ from < most-ranks ⌝ ∗ ⌜ to < most-ranks ⌝ }
@@ -125,21 +133,21 @@ pub impl<T: Transport> Transport for Group<T> as GroupTransport {
     }
 
     fn depth(&self) -> usize {
-        if self.count == 0 {
+        if !self.has_ranks() {
             return 0;
         }
         self.below.depth()
     }
 
     fn room(&self) -> usize {
-        if self.count == 0 {
+        if !self.has_ranks() {
             return 0;
         }
         self.below.room()
     }
 
     fn waiting(&self) -> usize {
-        if self.count == 0 {
+        if !self.has_ranks() {
             return 0;
         }
         self.below.waiting()

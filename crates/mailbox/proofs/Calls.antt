@@ -283,9 +283,6 @@ module _ (m : Mailbox) (s : mailbox-sound m) (a b : ℕ) (pair : pair-ok (m .ran
         counted-taken : used ≡ waiting (mailbox-network p d vs) + 1
         counted-taken = s .counted ∙ taken-waiting net a b t (message-of (getD slots k x)) pair tagged-oldest ∙ ap (λ m. waiting m + 1) (sym matrix-taken)
 
-        pub used-some : 1 ≤ used
-        used-some = omega (arith, counted-taken)
-
         pub matrix-taken-sound : SoundBox p d (used - 1) vs
         matrix-taken-sound = record {
           few = s .few;

@@ -92,13 +92,15 @@ fn find(words: &[u32], base: usize, depth: usize, wanted: Wanted) -> Option<usiz
     None
 }
 
-// The slots behind place `at` of a row move down by one, and the last one is free.
-fn close_gap(words: &mut [u32], base: usize, depth: usize, at: usize)
-    requires { ⌜ 4 * (base + depth) ≤ length (now words) ⌝ ∗ ⌜ at < depth ⌝ }
+// Takes a message out of place `at` of a row: the slots behind it move down by one, and the last one is free.
+// Of `used` messages in all, the answer is how many are left.
+fn remove(words: &mut [u32], used: usize, base: usize, depth: usize, at: usize) -> usize
+    requires { ⌜ 4 * (base + depth) ≤ length (now words) ⌝ ∗ ⌜ at < depth ⌝ ∗ ⌜ 0 < used ⌝ }
     ensures below { λ _. ⌜ ((j : ℕ) → j < base + at → slot-at (now (words .exit)) j ≡ slot-at (now (words .entry)) j) ⌝ }
     ensures moved { λ _. ⌜ ((j : ℕ) → base + at ≤ j → j + 1 < base + depth → slot-at (now (words .exit)) j ≡ slot-at (now (words .entry)) (j + 1)) ⌝ }
     ensures last { λ _. ⌜ is-free (slot-at (now (words .exit)) (base + depth - 1)) ≡ true ⌝ }
     ensures above { λ _. ⌜ ((j : ℕ) → base + depth ≤ j → slot-at (now (words .exit)) j ≡ slot-at (now (words .entry)) j) ⌝ }
+    ensures left { λ r. ⌜ r ≡ used - 1 ⌝ }
 {
     let mut k = base + at;
     let end = base + depth - 1;
@@ -114,6 +116,7 @@ fn close_gap(words: &mut [u32], base: usize, depth: usize, at: usize)
         second: 0,
     };
     write_slot(words, end, free);
+    used - 1
 }
 
 // The first slot of a pair.
@@ -264,7 +267,7 @@ pub impl Transport for Mailbox<'_> as MailboxTransport {
     }
 
     fn waiting(&self) -> usize {
-        self.used
+        self.used // in all boxes
     }
 
     fn waiting_between(&self, from: usize, to: usize) -> Result<usize, Fault> {
@@ -342,9 +345,8 @@ pub impl Transport for Mailbox<'_> as MailboxTransport {
                 let base = base_of(self.ranks, self.depth, from, to);
                 let slot = self.slot(base + k);
                 let length = deliver(slot, buffer);
-                let depth = self.depth;
-                close_gap(self.words, base, depth, k);
-                self.used -= 1;
+                let (depth, used) = (self.depth, self.used);
+                self.used = remove(self.words, used, base, depth, k);
                 Ok(Some(length))
             }
         }

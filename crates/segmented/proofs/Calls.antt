@@ -1,5 +1,5 @@
 -- What the layer answers, and what it stands for after each call.
-use mathlib.Core.Path.{_≡_, refl, sym, ap, ap₂, subst, _∙_}
+use mathlib.Core.Path.{_≡_, refl, sym, ap, subst, _∙_}
 use mathlib.Core.List.{List, [], _∷_, _++_}
 use mathlib.Core.Bool.{Bool, true, false, cond, not, _&&_}
 use mathlib.Core.Logic.{_⊎_, inl, inr}
@@ -55,9 +55,9 @@ module _ (lim p : ℕ) (n : Network) (w : Whole lim p n) (a b : ℕ) (pair : pai
   pub limit-some : 0 < lim
   limit-some = w .some h
 
-  pub between-answer : (segments count limit : ℕ) → value segments ≡ between-reply n a b → count ≡ pieces limit → limit ≡ lim → value (segments / count) ≡ between-reply net a b
-  between-answer s c l e ce le =
-      ap value (ap₂ (λ x y. x / y) (same-value s (between n a b) (e ∙ between-good n a b pair-below)) (ce ∙ ap pieces le) ∙ between-div lim p n w h a b ∙ ap (λ m. between m a b) (sym is-open))
+  pub between-answer : (segments messages : ℕ) → value segments ≡ between-reply n a b → messages ≡ segments / pieces lim → value messages ≡ between-reply net a b
+  between-answer s m e me =
+      ap value (me ∙ ap (λ x. x / pieces lim) (same-value s (between n a b) (e ∙ between-good n a b pair-below)) ∙ between-div lim p n w h a b ∙ ap (λ m. between m a b) (sym is-open))
       ∙ sym (between-good net a b pair-here)
     where
       same-value : (x y : ℕ) → value x ≡ value y → x ≡ y

@@ -2,7 +2,8 @@
 ghost use mathlib.Core.Path.{_≡_};
 ghost use mathlib.Core.Bool.{true, cond};
 ghost use mathlib.Core.List.{_++_};
-ghost use Prim.Native.Nat.{ℕ, _+_, _-_, _*_, _/_, _<_, _≤_};
+ghost use Prim.Native.Nat.{ℕ, min, _+_, _-_, _*_, _/_, _<_, _≤_};
+ghost use lib.Dec.{ltb};
 ghost use lib.ListN.{length, getD, set, take, drop};
 ghost use Rattle.std.specs.declared.option.Option.the-variants.{Some};
 ghost use Rattle.std.specs.declared.result.Result.the-variants.{Ok};
@@ -34,13 +35,29 @@ fn block_of(words: &[u32]) -> [u32; 8]
     block
 }
 
+// n divided by d, rounded up.
+fn quotient_up(n: usize, d: usize) -> usize
+    requires { ⌜ n ≤ 8 ⌝ ∗ ⌜ 0 < d ⌝ ∗ ⌜ d ≤ 8 ⌝ }
+    ensures { λ r. ⌜ r ≡ (n + d - 1) / d ⌝ }
+{
+    (n + d - 1) / d
+}
+
 // How many segments a message has over a transport of that limit.
 fn pieces_over(limit: usize) -> usize
     requires { ⌜ 0 < limit ⌝ ∗ ⌜ limit ≤ 8 ⌝ }
     ensures value { λ r. ⌜ r ≡ pieces limit ⌝ }
     ensures some { λ r. ⌜ 0 < r ⌝ }
 {
-    (limit + BLOCK - 1) / limit
+    quotient_up(BLOCK, limit)
+}
+
+// Where the segment of a block that begins at `start` ends.
+fn end_of(start: usize, limit: usize) -> usize
+    requires { ⌜ start ≤ 8 ⌝ ∗ ⌜ limit ≤ 8 ⌝ }
+    ensures { λ r. ⌜ r ≡ min (start + limit) 8 ⌝ }
+{
+    (start + limit).min(BLOCK)
 }
 
 // Sends a block as segments, for which there is room.
@@ -64,7 +81,7 @@ fn send_segments<T: Transport>(
     let limit = below.limit();
     for k in 0..pieces_over(limit) {
         let start = (k * limit).min(BLOCK);
-        let end = (start + limit).min(BLOCK);
+        let end = end_of(start, limit);
         below.send(from, to, tag, &block[start..end])?;
     }
     Ok(())
@@ -170,6 +187,21 @@ impl<T: Transport> Segmented<T> {
         let Segmented { below, ranks: _ } = self;
         below
     }
+
+    // Whether the layer has any ranks.
+    fn has_ranks(&self) -> bool
+        ensures { λ r. ⌜ r ≡ ltb 0 (now (self .entry) .ranks) ⌝ }
+    {
+        0 < self.ranks
+    }
+
+    // How many messages so many segments are.
+    fn messages(&self, segments: usize) -> usize
+        requires { ⌜ T·Transport .sound (now self .below) ⌝ ∗ ⌜ 0 < T·Transport .most ⌝ }
+        ensures { λ r. ⌜ r ≡ segments / pieces (T·Transport .most) ⌝ }
+    {
+        segments / pieces_over(self.below.limit())
+    }
 }
 
 pub impl<T: Transport> Transport for Segmented<T> as SegmentedTransport {
@@ -192,24 +224,24 @@ pub impl<T: Transport> Transport for Segmented<T> as SegmentedTransport {
     }
 
     fn depth(&self) -> usize {
-        if self.ranks == 0 {
+        if !self.has_ranks() {
             return 0;
         }
-        self.below.depth() / pieces_over(self.below.limit())
+        self.messages(self.below.depth())
     }
 
     fn room(&self) -> usize {
-        if self.ranks == 0 {
+        if !self.has_ranks() {
             return 0;
         }
-        self.below.room() / pieces_over(self.below.limit())
+        self.messages(self.below.room())
     }
 
     fn waiting(&self) -> usize {
-        if self.ranks == 0 {
+        if !self.has_ranks() {
             return 0;
         }
-        self.below.waiting() / pieces_over(self.below.limit())
+        self.messages(self.below.waiting())
     }
 
     fn waiting_between(&self, from: usize, to: usize) -> Result<usize, Fault> {
@@ -217,7 +249,7 @@ pub impl<T: Transport> Transport for Segmented<T> as SegmentedTransport {
             return Err(Fault::BadPair);
         }
         let segments = self.below.waiting_between(from, to)?;
-        Ok(segments / pieces_over(self.below.limit()))
+        Ok(self.messages(segments))
     }
 
     fn send(&mut self, from: usize, to: usize, tag: u32, words: &[u32]) -> Result<(), Fault> {

@@ -9,7 +9,7 @@ use lib.Dec.{leb}
 use lib.ListN.{length, take, drop, set, getD}
 use Rattle.std.specs.shelf.Lists.{All, At, kept-by, removed}
 use Rattle.std.specs.declared.option.Option.the-variants.{Some, None}
-use Rattle.std.proofs.shelf.Lists.{length-set, length-take, length-take-le, take-more-set, take-set-le, take-append-drop, take-all, set-split, take-append-le, length-append, length-drop, take-at, set-append-left, getD-take, getD-default}
+use Rattle.std.proofs.shelf.Lists.{length-set, length-take, length-take-le, take-more-set, take-set-le, take-append-drop, take-all, set-split, take-at, set-append-left, getD-take, getD-default}
 use Rattle.std.proofs.shelf.Elements.{all-push, all-getD}
 use Rattle.std.proofs.shelf.Sums.{length-kept-by, countBy-le-length}
 use Rattle.std.proofs.shelf.Tests.{cases-bool, and-parts, eqb-true, leb-true, cases-lt, lt-leb, le-leb}
@@ -220,32 +220,21 @@ module _ (log : Log) (s : log-sound log) where
       pub log-good-in : Good p (getD rs i d)
       log-good-in = subst (Good p) (sym same-y) (all-getD (Good p) live i d inside (s .good))
 
-      -- the gap is closed within the first w, which are those in use
-      module _ (w : ℕ) (last : List Record) (w-is : w ≡ used) (long : length last ≡ length (take w rs))
-          (closed : take (length (take w rs) - 1) last ≡ removed (take w rs) i)
-        where
-          last-length : length last ≡ used
-          last-length = long ∙ ap (λ k. length (take k rs)) w-is ∙ live-length
+      -- the gap is closed, and so many records are left in use
+      module _ (left : ℕ) (last : List Record) (fewer : left ≡ used - 1) (long : length last ≡ length rs) (closed : take left last ≡ removed live i) where
+        pub log-after-take : log-network p room (take left last) ≡ with-lists net (log-under live) (put (log-arrived live) a b (without t (log-arrived live a b)))
+        log-after-take = ap (log-network p room) closed ∙ log-taken
 
-          left : take (used - 1) (last ++ drop w rs) ≡ removed live i
-          left =
-              take-append-le (used - 1) last (drop w rs) (omega (arith, last-length))
-              ∙ ap (λ k. take (k - 1) last) (sym (ap (λ k. length (take k rs)) w-is ∙ live-length))
-              ∙ closed ∙ ap (λ k. removed (take k rs) i) w-is
-
-          pub log-after-take : log-network p room (take (used - 1) (last ++ drop w rs)) ≡ with-lists net (log-under live) (put (log-arrived live) a b (without t (log-arrived live a b)))
-          log-after-take = ap (log-network p room) left ∙ log-taken
-
-          pub log-take-sound : SoundLog p room (used - 1) (last ++ drop w rs)
-          log-take-sound = record {
-            few = s .few;
-            no-room = s .no-room;
-            most = s .most;
-            within = simp (length-append, length-drop) (omega (arith, last-length, w-is, s .within, s .fits));
-            fits = omega (arith, s .fits);
-            good = subst (All (Good p)) (sym left) log-taken-good;
-            ordered = subst Ordered (sym left) log-taken-ordered;
-          }
+        pub log-take-sound : SoundLog p room left last
+        log-take-sound = record {
+          few = s .few;
+          no-room = s .no-room;
+          most = s .most;
+          within = omega (arith, long, s .within);
+          fits = omega (arith, fewer, s .fits);
+          good = subst (All (Good p)) (sym closed) log-taken-good;
+          ordered = subst Ordered (sym closed) log-taken-ordered;
+        }
 
 -- a new log
 pub new-is : (p room : ℕ) → log-network p room [] ≡ quiet p room room 4

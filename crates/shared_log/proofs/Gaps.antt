@@ -5,7 +5,7 @@ use Prim.Native.Nat.{ℕ, suc, _+_, _-_, _<_, _≤_}
 use native.Mathlib.Omega.{arith}
 use lib.ListN.{length, take, drop, set, getD}
 use Rattle.std.specs.shelf.Lists.{removed}
-use Rattle.std.proofs.shelf.Lists.{append-nil, append-assoc, length-take, take-take, take-all, drop-all, take-more, take-more-set, take-append-le, drop-append-le, drop-set-lt, getD-drop, drop-drop}
+use Rattle.std.proofs.shelf.Lists.{append-nil, append-assoc, length-take, take-take, drop-all, take-more, take-more-set, take-append-le, drop-append-le, drop-set-lt, getD-drop, drop-drop}
 
 module _ {X : Type 0} (xs : List X) (at : ℕ) where
   pub gap-none : at < length xs → take at xs ≡ removed (take (at + 1) xs) at
@@ -34,7 +34,8 @@ module _ {X : Type 0} (xs : List X) (at : ℕ) where
       pub gap-rest : (x : X) → drop (i + 1) (set ys i x) ≡ drop (i + 1) xs
       gap-rest x = drop-set-lt (i + 1) ys i x (omega arith) ∙ sym (drop-drop 1 i ys) ∙ ap (drop 1) rest ∙ drop-drop 1 i xs
 
-  pub gap-all : (ys : List X) (i : ℕ) → i < length xs → length xs ≤ i + 1 → take i ys ≡ removed (take (i + 1) xs) at → take (length xs - 1) ys ≡ removed xs at
-  gap-all ys i h k front =
-      let n : length xs - 1 ≡ i = omega arith in
-      ap (λ m. take m ys) n ∙ front ∙ ap (λ l. removed l at) (take-all (i + 1) xs k)
+  pub gap-all : (ys : List X) (i used : ℕ) → i < used → used ≤ i + 1 → take i ys ≡ removed (take (i + 1) xs) at → take (used - 1) ys ≡ removed (take used xs) at
+  gap-all ys i used h k front =
+      let last : used - 1 ≡ i = omega arith in
+      let all : i + 1 ≡ used = omega arith in
+      ap (λ n. take n ys) last ∙ front ∙ ap (λ n. removed (take n xs) at) all

@@ -89,16 +89,26 @@ fn count_between(records: &[Record], from: usize, to: usize) -> usize
     count
 }
 
-// What follows `at` moves down by one place.
-fn close_gap(records: &mut [Record], at: usize)
-    requires { ⌜ at < length (now records) ⌝ }
-    ensures { λ _. ⌜ take (length (now (records .entry)) - 1) (now (records .exit)) ≡ removed (now (records .entry)) at ⌝ }
+// Of the first `used` records those that follow `at` move down by one place.
+fn close_gap(records: &mut [Record], used: usize, at: usize)
+    requires { ⌜ at < used ⌝ ∗ ⌜ used ≤ length (now records) ⌝ }
+    ensures { λ _. ⌜ take (used - 1) (now (records .exit)) ≡ removed (take used (now (records .entry))) at ⌝ }
 {
     let mut i = at;
-    while i + 1 < records.len() {
+    while i + 1 < used {
         records[i] = records[i + 1];
         i += 1;
     }
+}
+
+// Takes one of the first `used` records out, and answers how many are left.
+fn remove(records: &mut [Record], used: usize, at: usize) -> usize
+    requires { ⌜ at < used ⌝ ∗ ⌜ used ≤ length (now records) ⌝ }
+    ensures row { λ r. ⌜ take r (now (records .exit)) ≡ removed (take used (now (records .entry))) at ⌝ }
+    ensures left { λ r. ⌜ r ≡ used - 1 ⌝ }
+{
+    close_gap(records, used, at);
+    used - 1
 }
 
 // The words of a message, with zeros behind them.
@@ -158,12 +168,20 @@ impl<'a> Log<'a> {
         }
     }
 
+    // The records of the messages that wait.
+    fn in_use(&self) -> &[Record]
+        requires { ⌜ now self .used ≤ length (now (now self .records)) ⌝ }
+        ensures { λ r. ⌜ now r ≡ take (now (self .entry) .used) (now (now (self .entry) .records)) ⌝ }
+    {
+        &self.records[..self.used]
+    }
+
     // How many messages wait between two ranks.
     fn count(&self, from: usize, to: usize) -> usize
         requires { ⌜ now self .used ≤ length (now (now self .records)) ⌝ }
         ensures { λ r. ⌜ r ≡ length (kept-by (of-pair from to) (take (now (self .entry) .used) (now (now (self .entry) .records)))) ⌝ }
     {
-        count_between(&self.records[0..self.used], from, to)
+        count_between(self.in_use(), from, to)
     }
 
     // The place of the oldest message that is wanted.
@@ -171,7 +189,7 @@ impl<'a> Log<'a> {
         requires { ⌜ now self .used ≤ length (now (now self .records)) ⌝ }
         ensures { λ r. ⌜ Found (fits from to wanted) (take (now (self .entry) .used) (now (now (self .entry) .records))) r ⌝ }
     {
-        oldest(&self.records[0..self.used], from, to, wanted)
+        oldest(self.in_use(), from, to, wanted)
     }
 
     // Why a log whose records are all used refuses a message.
@@ -211,11 +229,11 @@ pub impl Transport for Log<'_> as LogTransport {
     }
 
     fn room(&self) -> usize {
-        self.room
+        self.room // for all pairs together
     }
 
     fn waiting(&self) -> usize {
-        self.used
+        self.in_use().len()
     }
 
     fn waiting_between(&self, from: usize, to: usize) -> Result<usize, Fault> {
@@ -280,8 +298,7 @@ pub impl Transport for Log<'_> as LogTransport {
                 let record = self.records[at];
                 let length = record.read(buffer);
                 let used = self.used;
-                close_gap(&mut self.records[0..used], at);
-                self.used = used - 1;
+                self.used = remove(self.records, used, at);
                 Ok(Some(length))
             }
             None => Ok(None),

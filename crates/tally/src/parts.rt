@@ -1,6 +1,6 @@
-// A text in as many parts as there are ranks, measured part by part and joined in rank order.
+// A text in as many parts as there are ranks, measured part by part.
 ghost use mathlib.Core.Path.{_≡_};
-ghost use Prim.Native.Nat.{ℕ, _+_, _≤_, _<_};
+ghost use Prim.Native.Nat.{ℕ, _+_, _*_, _≤_, _<_};
 ghost use lib.ListN.{length, getD};
 ghost use Rattle.operation.specs.Text.{measured, text as textMeaning};
 ghost use Rattle.operation.specs.declared.text.TextElement.the-variants.{Empty};
@@ -10,15 +10,9 @@ use operation::Operation;
 use operation::text::Text;
 use operation::text::TextElement;
 use operation::text::TextOperation;
+use std::fmt;
 
-const RANKS: usize = 8;
-
-// What each rank counts of its part, and the whole text.
-#[derive(Clone, Copy)]
-pub struct Tally {
-    pub parts: [TextElement; RANKS],
-    pub whole: TextElement,
-}
+pub const RANKS: usize = 8;
 
 // The counts of a text as numbers, zeros for the empty text.
 #[derive(Clone, Copy)]
@@ -48,7 +42,7 @@ fn measure_part(text: &[u8], rank: usize) -> TextElement
 }
 
 // The element of each rank's part.
-fn measure_parts(text: &[u8]) -> [TextElement; RANKS]
+pub fn measure_parts(text: &[u8]) -> [TextElement; RANKS]
     ensures { λ r. ⌜ PartsMeasured (now (text .entry)) r ⌝ }
 {
     let mut parts = [Text.unit(); RANKS];
@@ -58,30 +52,32 @@ fn measure_parts(text: &[u8]) -> [TextElement; RANKS]
     parts
 }
 
-// The join of all, in rank order.
-fn join_all(parts: &[TextElement]) -> TextElement
-    ensures { λ r. ⌜ r ≡ folded (textMeaning .join) (textMeaning .unit) (now (parts .entry)) ⌝ }
+// Writes the block of a rank's part to its place.
+fn pack_part(words: &mut [u32], rank: usize, part: TextElement)
+    requires { ⌜ 4 * rank + 4 ≤ length (now words) ⌝ }
 {
-    let mut sum = Text.unit();
-    for x in parts {
-        sum = Text.join(sum, *x);
-    }
-    sum
+    let at = 4 * rank;
+    Text.pack(part, &mut words[at..at + 4]);
 }
 
-impl Tally {
-    // Measures a text in parts; the join of the parts is the measure of the whole.
-    pub fn of(text: &[u8]) -> Tally
-        ensures parts { λ r. ⌜ PartsMeasured (now (text .entry)) (r .parts) ⌝ }
-        ensures whole { λ r. ⌜ r .whole ≡ measured (now (text .entry)) ⌝ }
-    {
-        let parts = measure_parts(text);
-        let whole = join_all(&parts);
-        Tally { parts, whole }
+// The blocks of all parts, in rank order.
+pub fn pack_parts(parts: &[TextElement; RANKS]) -> [u32; 32] {
+    let mut words = [0; 32];
+    for rank in 0..RANKS {
+        pack_part(&mut words, rank, parts[rank]);
     }
+    words
 }
 
 impl Totals {
+    // The counts of a block.
+    pub fn of_block(block: &[u32]) -> Totals {
+        match Text.unpack(block) {
+            Ok(x) => Totals::of(x),
+            Err(_) => Totals::of(TextElement::Empty),
+        }
+    }
+
     pub fn of(x: TextElement) -> Totals
         ensures { λ r. ⌜ r ≡ totalsOf x ⌝ }
     {
@@ -97,5 +93,14 @@ impl Totals {
                 words: c.words,
             },
         }
+    }
+}
+
+pub impl fmt::Display for Totals as TotalsDisplay {
+    fn fmt<W: fmt::Write>(&self, f: &mut fmt::Formatter<W>) -> fmt::Result {
+        let bytes = self.bytes;
+        let lines = self.lines;
+        let words = self.words;
+        write!(f, "bytes {bytes} lines {lines} words {words}")
     }
 }

@@ -7,10 +7,10 @@ use Rattle.transport.specs.Network.{value, word-count, written, oldest}
 use Rattle.transport.proofs.Replies.{take-bad, after-take-bad, taken-bad, take-short, after-take-short, taken-short, take-none, after-take-none, taken-none, take-found, after-take-found, taken-found}
 use Rattle.mailbox.specs.declared.Slot.{Slot}
 use Rattle.mailbox.specs.Slots.{message-of, slot-at, base, is-free, is-tagged, is-arrived}
-use Rattle.mailbox.specs.Matrix.{mailbox-meaning}
+use Rattle.mailbox.specs.Matrix.{mailbox-meaning, SoundBox}
 use Rattle.transport.proofs.Stored.{oldest-none}
 use Rattle.mailbox.proofs.Rows.{getD-row, arrived-range}
-use Rattle.mailbox.proofs.Calls.{blank, idle, arrived-here, slots-length, within, small-place, tagged-oldest, matrix-taken, used-some, matrix-taken-sound}
+use Rattle.mailbox.proofs.Calls.{blank, idle, arrived-here, slots-length, within, small-place, tagged-oldest, matrix-taken, matrix-taken-sound}
 use Rattle.mailbox.proofs.MailboxTransport.take.Needs as need
 
 pub returns-then-not-is-pair : need.returns-then-not-is-pair
@@ -76,29 +76,14 @@ deliver-length-requires c κs =
     let r = arrived-range (c .args .tag) y there in
     (r .0, (r .1, c .if-buffer-lt-MESSAGE-LIMIT .left))
 
-pub close-gap-requires : need.close-gap-requires
-close-gap-requires c κs =
+pub remove-self-requires : need.remove-self-requires
+remove-self-requires c κs =
     let m = c .args .self .now in
-    let n = mailbox-meaning m in
     let e = sym (c .if-not-is-pair .ensures tt) in
-    let f = c .in-Some .ensures tt in
-    (omega (arith, c .base-of-base .ensures, within m (c .pre) (c .args .from) (c .args .to) e), omega (arith, slots-length m (c .pre) (c .args .from) (c .args .to) e, f .0))
-
-pub sub-self : need.sub-self
-sub-self c =
-    let m = c .args .self .now in
-    let n = mailbox-meaning m in
-    let e = sym (c .if-not-is-pair .ensures tt) in
-    let f = c .in-Some .ensures tt in
-    let b = c .base-of-base .ensures in
-    let g = c .close-gap .ensures in
-    let vs = c .close-gap .last .words in
-    let low : (j : ℕ) → j < base (m .ranks) (m .depth) (c .args .from) (c .args .to) + c .in-Some .k → slot-at vs j ≡ slot-at (m .words .now) j = λ j h. g .below j (omega (arith, b)) in
-    let moved : (j : ℕ) → base (m .ranks) (m .depth) (c .args .from) (c .args .to) + c .in-Some .k ≤ j → j + 1 < base (m .ranks) (m .depth) (c .args .from) (c .args .to) + m .depth → slot-at vs j ≡ slot-at (m .words .now) (j + 1) = λ j h l. g .moved j (omega (arith, b)) (omega (arith, b)) in
-    let high : (j : ℕ) → base (m .ranks) (m .depth) (c .args .from) (c .args .to) + m .depth ≤ j → slot-at vs j ≡ slot-at (m .words .now) j = λ j h. g .above j (omega (arith, b)) in
-    let freed = subst (λ (i : ℕ). is-free (slot-at vs ((i + m .depth) - 1)) ≡ true) b (g .last) in
-    let long = c .close-gap .kept .words in
-    omega (arith, used-some m (c .pre) (c .args .from) (c .args .to) e (c .args .tag) (c .in-Some .k) blank (f .0) (f .1) (f .2) vs low moved freed high long)
+    let f = c .in-Some .ensures tt in (
+      omega (arith, c .base-of-base .ensures, within m (c .pre) (c .args .from) (c .args .to) e),
+      (omega (arith, slots-length m (c .pre) (c .args .from) (c .args .to) e, f .0), omega (arith, c .if-self-eq0 .left)),
+    )
 
 pub returns-in-Some : need.returns-in-Some
 returns-in-Some c =
@@ -111,18 +96,18 @@ returns-in-Some c =
     let is = c .slot-slot .ensures ∙ ap (λ (i : ℕ). slot-at (m .words .now) (i + c .in-Some .k)) b in
     let o = getD-row (slot-at (m .words .now)) (base (m .ranks) (m .depth) (c .args .from) (c .args .to)) (m .depth) (c .in-Some .k) blank (subst (λ (q : ℕ). c .in-Some .k < q) (slots-length m (c .pre) (c .args .from) (c .args .to) e) (f .0)) ∙ sym is in
     let there = subst (λ (r : Slot). is-tagged (c .args .tag) r ≡ true) o (f .2 blank) in
-    let g = c .close-gap .ensures in
-    let vs = c .close-gap .last .words in
+    let g = c .remove-self .ensures in
+    let vs = c .remove-self .last .words in
     let low : (j : ℕ) → j < base (m .ranks) (m .depth) (c .args .from) (c .args .to) + c .in-Some .k → slot-at vs j ≡ slot-at (m .words .now) j = λ j h. g .below j (omega (arith, b)) in
     let moved : (j : ℕ) → base (m .ranks) (m .depth) (c .args .from) (c .args .to) + c .in-Some .k ≤ j → j + 1 < base (m .ranks) (m .depth) (c .args .from) (c .args .to) + m .depth → slot-at vs j ≡ slot-at (m .words .now) (j + 1) = λ j h l. g .moved j (omega (arith, b)) (omega (arith, b)) in
     let high : (j : ℕ) → base (m .ranks) (m .depth) (c .args .from) (c .args .to) + m .depth ≤ j → slot-at vs j ≡ slot-at (m .words .now) j = λ j h. g .above j (omega (arith, b)) in
     let freed = subst (λ (i : ℕ). is-free (slot-at vs ((i + m .depth) - 1)) ≡ true) b (g .last) in
-    let long = c .close-gap .kept .words in
+    let long = c .remove-self .kept .words in
     let h = c .if-buffer-lt-MESSAGE-LIMIT .left in
     let found = tagged-oldest m (c .pre) (c .args .from) (c .args .to) e (c .args .tag) (c .in-Some .k) blank (f .0) (f .1) (f .2) ∙ ap (λ r. Some (message-of r)) o in
     record {
       answer = ap value (c .deliver-length .ensures .count) ∙ sym (take-found n (c .args .from) (c .args .to) (c .args .tag) (c .args .buffer .now) e h ∙ ap word-count found);
       words = c .deliver-length .ensures .words ∙ sym (taken-found n (c .args .from) (c .args .to) (c .args .tag) (c .args .buffer .now) e h ∙ ap (λ x. written x (c .args .buffer .now)) found);
       after = matrix-taken m (c .pre) (c .args .from) (c .args .to) e (c .args .tag) (c .in-Some .k) blank (f .0) (f .1) (f .2) vs low moved freed high long ∙ sym (after-take-found n (c .args .from) (c .args .to) (c .args .tag) (c .args .buffer .now) e h);
-      kept = matrix-taken-sound m (c .pre) (c .args .from) (c .args .to) e (c .args .tag) (c .in-Some .k) blank (f .0) (f .1) (f .2) vs low moved freed high long;
+      kept = subst (λ (u : ℕ). SoundBox (m .ranks) (m .depth) u vs) (sym (g .left)) (matrix-taken-sound m (c .pre) (c .args .from) (c .args .to) e (c .args .tag) (c .in-Some .k) blank (f .0) (f .1) (f .2) vs low moved freed high long);
     }

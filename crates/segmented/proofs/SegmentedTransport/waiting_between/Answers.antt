@@ -25,4 +25,4 @@ returns g c =
     let t = g .T·Transport in
     let l = c .args .self .now in
     let n = t .meaning (l .below) in
-    between-answer (t .most) (l .ranks) n (c .pre .1) (c .args .from) (c .args .to) (sym (c .if-not-is-pair .ensures tt)) (c .in-Continue-segments .segments) (c .pieces-over .result) (c .limit .result) (c .in-Continue-segments .ensures tt) (c .pieces-over .ensures .value) (c .limit .ensures)
+    between-answer (t .most) (l .ranks) n (c .pre .1) (c .args .from) (c .args .to) (sym (c .if-not-is-pair .ensures tt)) (c .in-Continue-segments .segments) (c .messages .result) (c .in-Continue-segments .ensures tt) (c .messages .ensures)

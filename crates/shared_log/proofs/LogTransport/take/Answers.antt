@@ -1,6 +1,4 @@
-use mathlib.Core.Path.{_≡_, sym, ap, _∙_}
-use Prim.Native.Nat.{_-_}
-use native.Mathlib.Omega.{arith}
+use mathlib.Core.Path.{sym, ap, _∙_}
 use lib.ListN.{take}
 use Rattle.transport.proofs.Replies.{take-bad, after-take-bad, taken-bad, take-short, after-take-short, taken-short, take-none, after-take-none, taken-none, take-found, after-take-found, taken-found}
 use Rattle.transport.specs.Network.{value, word-count, written}
@@ -60,12 +58,12 @@ returns-in-Some c =
     let e = sym (c .if-not-is-pair .ensures tt) in
     let h = c .if-buffer-lt-MESSAGE-LIMIT .left in
     let o = log-oldest-in l (c .pre) (c .args .from) (c .args .to) (c .args .tag) (c .in-Some .at) blank (f .0) (f .1) (f .2) in
-    let w : l .used - 0 ≡ l .used = omega arith in
+    let k = c .remove-self .ensures in
     record {
       answer = ap value (c .read-length .ensures .count) ∙ sym (take-found n (c .args .from) (c .args .to) (c .args .tag) (c .args .buffer .now) e h ∙ ap word-count o);
       words = c .read-length .ensures .words ∙ sym (taken-found n (c .args .from) (c .args .to) (c .args .tag) (c .args .buffer .now) e h ∙ ap (λ m. written m (c .args .buffer .now)) o);
       after =
-          log-after-take l (c .pre) (c .args .from) (c .args .to) (c .args .tag) (c .in-Some .at) blank (f .0) (f .1) (f .2) (l .used - 0) (c .close-gap .last .records) w (c .close-gap .kept .records) (c .close-gap .ensures)
+          log-after-take l (c .pre) (c .args .from) (c .args .to) (c .args .tag) (c .in-Some .at) blank (f .0) (f .1) (f .2) (c .remove-self .result) (c .remove-self .last .records) (k .left) (c .remove-self .kept .records) (k .row)
           ∙ sym (after-take-found n (c .args .from) (c .args .to) (c .args .tag) (c .args .buffer .now) e h);
-      kept = log-take-sound l (c .pre) (c .args .from) (c .args .to) (c .args .tag) (c .in-Some .at) blank (f .0) (f .1) (f .2) (l .used - 0) (c .close-gap .last .records) w (c .close-gap .kept .records) (c .close-gap .ensures);
+      kept = log-take-sound l (c .pre) (c .args .from) (c .args .to) (c .args .tag) (c .in-Some .at) blank (f .0) (f .1) (f .2) (c .remove-self .result) (c .remove-self .last .records) (k .left) (c .remove-self .kept .records) (k .row);
     }

@@ -1,6 +1,9 @@
-use mathlib.Core.Path.{sym}
-use Rattle.shared_log.proofs.Calls.{net-waiting}
+use mathlib.Core.Path.{sym, ap, _∙_}
+use lib.ListN.{length}
+use Rattle.shared_log.proofs.Calls.{live-length, net-waiting}
 use Rattle.shared_log.proofs.LogTransport.waiting.Needs as need
 
 pub returns : need.returns
-returns c = sym (net-waiting (c .args .self .now) (c .pre))
+returns c =
+    let l = c .args .self .now in
+    ap length (c .in-use .ensures) ∙ live-length l (c .pre) ∙ sym (net-waiting l (c .pre))

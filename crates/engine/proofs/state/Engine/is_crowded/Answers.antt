@@ -23,25 +23,15 @@ messages-pending-requires g c κs =
     let fit = messages-fit (g .O·Operation .meaning) (g .T·Transport .meaning) (g .T·Transport .sound) (c .args .self .now) (c .pre .sound .origin) (c .pre .sound .stands) (c .args .schedule .collective) [] in
     (search needs, omega (arith, fit, c .room-room .ensures, c .room-room .ok))
 
-pub sub-result : need.sub-result
-sub-result g c =
+pub overfills-requires : need.overfills-requires
+overfills-requires g c κs =
     let fit = messages-fit (g .O·Operation .meaning) (g .T·Transport .meaning) (g .T·Transport .sound) (c .args .self .now) (c .pre .sound .origin) (c .pre .sound .stands) (c .args .schedule .collective) [] in
     omega (arith, fit, c .room-room .ensures, c .messages-pending .ensures)
-
--- a difference compared is a sum compared
-compared : (a b n : ℕ) → b ≤ a → ltb (a - b) n ≡ ltb a (b + n)
-compared a b n h =
-    elim (cases-lt (a - b) n) [
-      | inl l ↦ lt-ltb (a - b) n l ∙ sym (lt-ltb a (b + n) (omega arith))
-      | inr l ↦ le-ltb (a - b) n l ∙ sym (le-ltb a (b + n) (omega arith))
-    ]
 
 pub returns : need.returns
 returns g c = λ o h.
     let net = g .T·Transport .meaning in
     let e = c .args .self .now in
     let k = c .args .schedule .collective in
-    let fit = messages-fit (g .O·Operation .meaning) net (g .T·Transport .sound) e o h k [] in
     room-tells (g .O·Operation .meaning) net (g .T·Transport .sound) e o h k [] (omega (arith, c .len .ensures, c .depth .ensures, c .if-len-depth .left)) _
-    (compared (c .room-room .result) (c .messages-pending .result) (c .messages-messages .result) (omega (arith, fit, c .room-room .ensures, c .messages-pending .ensures))
-    ∙ ap₂ ltb (c .room-room .ensures) (ap₂ _+_ (c .messages-pending .ensures) (c .messages-messages .ensures ∙ ap (messages-of k) (c .pre .among))))
+    (c .overfills .ensures ∙ ap₂ ltb (c .room-room .ensures) (ap₂ _+_ (c .messages-pending .ensures) (c .messages .ensures ∙ ap (messages-of k) (c .pre .among))))

@@ -1,5 +1,4 @@
 use mathlib.Core.Path.{_≡_, refl, sym, ap, subst, _∙_}
-use lib.Dec.{eqb}
 use Rattle.machine.specs.Operation.{Lawful}
 use Rattle.machine.specs.Plain.{made}
 use Rattle.machine.specs.Sound.{Good}
@@ -22,7 +21,7 @@ returns g c =
     let none = c .new-jobs .ensures in
     let fresh = ap (λ js. with-jobs (c .args .name) m net net 0 js) none in
     let good = subst Good (sym fresh) (made-good (c .args .name) m net lawful well) in
-    let told = ap (λ n. eqb n 0) (c .waiting-clean .ensures) in
+    let told = c .is-empty-clean .ensures in
     let ranks = subst (Among-ranks (net .ranks)) (sym none) tt in
     record {
       sound = record { origin = net; stands = new-stands (g .O·Operation .meaning) (t .meaning) (t .sound) net _ (c .pre) good told ranks };

@@ -45,8 +45,8 @@ state-state-requires g c κs =
     let a = Send (c .args .to) (c .args .label) in
     (search needs, rank-low op net ok e t k r a due o h)
 
-pub add-stamp : need.add-stamp
-add-stamp g c =
+pub next-stamp-stamp-requires : need.next-stamp-stamp-requires
+next-stamp-stamp-requires g c κs =
     let op = g .O·Operation .meaning in
     let net = g .T·Transport .meaning in
     let ok = g .T·Transport .sound in
@@ -62,10 +62,11 @@ add-stamp g c =
     let j-is = c .job .ensures j in
     let st = c .state-state .result in
     let st-is = c .state-state .ensures st in
-    omega (arith, c .max-stamp .ensures, clocks op net ok e t k r a due o h j j-is st st-is)
+    let small = clocks op net ok e t k r a due o h j j-is st st-is in
+    (small .1, small .0)
 
-pub mul-tag : need.mul-tag
-mul-tag g c =
+pub job-tag-tag-requires : need.job-tag-tag-requires
+job-tag-tag-requires g c κs =
     let op = g .O·Operation .meaning in
     let net = g .T·Transport .meaning in
     let ok = g .T·Transport .sound in
@@ -81,26 +82,7 @@ mul-tag g c =
     let j-is = c .job .ensures j in
     let st = c .state-state .result in
     let st-is = c .state-state .ensures st in
-    omega (arith, number-low op net ok e t k r a due o h j j-is st st-is)
-
-pub add-tag : need.add-tag
-add-tag g c =
-    let op = g .O·Operation .meaning in
-    let net = g .T·Transport .meaning in
-    let ok = g .T·Transport .sound in
-    let e = c .args .self .now in
-    let t = c .args .token .now in
-    let k = c .args .place in
-    let r = c .args .rank in
-    let due = c .pre .due in
-    let o = c .pre .sound .origin in
-    let h = c .pre .sound .stands in
-    let a = Send (c .args .to) (c .args .label) in
-    let j = c .job .result .now in
-    let j-is = c .job .ensures j in
-    let st = c .state-state .result in
-    let st-is = c .state-state .ensures st in
-    omega (arith, number-low op net ok e t k r a due o h j j-is st st-is, label-low op net ok e t k r (c .args .to) (c .args .label) due o h j j-is st st-is)
+    (number-low op net ok e t k r a due o h j j-is st st-is, label-low op net ok e t k r (c .args .to) (c .args .label) due o h j j-is st st-is)
 
 pub send-value-requires : need.send-value-requires
 send-value-requires g c κs =
@@ -137,7 +119,7 @@ unreachable-requires g c κs =
     let j-is = c .job .ensures j in
     let st = c .state-state .result in
     let st-is = c .state-state .ensures st in
-    let stamp : max (st .departure) (st .arrival) + 1 ≡ c .max-stamp .result + 1 = omega (arith, c .max-stamp .ensures) in
+    let stamp = sym (c .next-stamp-stamp .ensures) in
     let words = ap (λ i. send-reply (net (e .transport)) r (c .args .to) (i ∷ op (e .operation) .pack (st .value))) stamp in
     let refuses = c .in-Err .ensures tt .answer ∙ sym words ∙ goes op net ok e t k r (c .args .to) (c .args .label) due o h j j-is st st-is in
     let z : _≡_ {A = ℕ} 0 1 = cc refuses in
@@ -197,8 +179,8 @@ returns g c =
     let j-is = c .job .ensures j in
     let st = c .state-state .result in
     let st-is = c .state-state .ensures st in
-    let stamp : c .max-stamp .result + 1 ≡ max (st .departure) (st .arrival) + 1 = omega (arith, c .max-stamp .ensures) in
-    let network = c .send-value .ensures .after ∙ ap (λ i. after-send (net (e .transport)) r (c .args .to) (message (tag-of (t .number) (c .args .label)) (i ∷ op (e .operation) .pack (st .value)))) stamp in
+    let stamp = c .next-stamp-stamp .ensures in
+    let network = c .send-value .ensures .after ∙ ap₂ (λ n i. after-send (net (e .transport)) r (c .args .to) (message n (i ∷ op (e .operation) .pack (st .value)))) (c .job-tag-tag .ensures) stamp in
     let jobs = c .send .ensures ∙ ap (λ i. update k (with-sent r (record { done = st .done + 1; value = st .value; prefix = st .prefix; arrival = st .arrival; departure = i })) (pending-jobs (e .jobs))) stamp in
     onward op net ok e _ (turn (t .name) (t .number) r) sent (c .send-value .ensures .kept) refl
     (λ p s. subst (Among-ranks p) (sym jobs) (ranks-update p k (with-sent r (departed st)) (λ i. refl) (pending-jobs (e .jobs)) s))

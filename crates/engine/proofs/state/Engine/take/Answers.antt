@@ -12,6 +12,9 @@ use Rattle.jobs.specs.Updates.{update}
 use Rattle.engine.specs.Abs.{Among-ranks, state-taken, with-jobs}
 use Rattle.engine.proofs.Onward.{onward}
 use Rattle.engine.proofs.Situation.{within, rank-low, clocks, number-low, narrow, done-few, take-label, pair, legible, waits-step, room-kept, took-step, ranks-update, received-ranks}
+use Rattle.machine.specs.Network.{with-taken}
+use Rattle.transport.specs.Network.{oldest}
+use Rattle.engine_parts.specs.Mail.{Legible, mail-in}
 use Rattle.engine.proofs.state.Engine.take.Needs as need
 
 pub job-requires : need.job-requires
@@ -44,8 +47,8 @@ state-state-requires g c κs =
     let a = Take (c .args .from) (c .args .label) (c .args .merge) in
     (search needs, rank-low op net ok e t k r a due o h)
 
-pub mul-tag : need.mul-tag
-mul-tag g c =
+pub job-tag-tag-requires : need.job-tag-tag-requires
+job-tag-tag-requires g c κs =
     let op = g .O·Operation .meaning in
     let net = g .T·Transport .meaning in
     let ok = g .T·Transport .sound in
@@ -61,26 +64,7 @@ mul-tag g c =
     let j-is = c .job .ensures j in
     let st = c .state-state .result in
     let st-is = c .state-state .ensures st in
-    omega (arith, number-low op net ok e t k r a due o h j j-is st st-is)
-
-pub add-tag : need.add-tag
-add-tag g c =
-    let op = g .O·Operation .meaning in
-    let net = g .T·Transport .meaning in
-    let ok = g .T·Transport .sound in
-    let e = c .args .self .now in
-    let t = c .args .token .now in
-    let k = c .args .place in
-    let r = c .args .rank in
-    let due = c .pre .due in
-    let o = c .pre .sound .origin in
-    let h = c .pre .sound .stands in
-    let a = Take (c .args .from) (c .args .label) (c .args .merge) in
-    let j = c .job .result .now in
-    let j-is = c .job .ensures j in
-    let st = c .state-state .result in
-    let st-is = c .state-state .ensures st in
-    omega (arith, number-low op net ok e t k r a due o h j j-is st st-is, take-label op net ok e t k r (c .args .from) (c .args .label) (c .args .merge) due o h j j-is st st-is)
+    (number-low op net ok e t k r a due o h j j-is st st-is, take-label op net ok e t k r (c .args .from) (c .args .label) (c .args .merge) due o h j j-is st st-is)
 
 pub take-value-requires : need.take-value-requires
 take-value-requires g c κs =
@@ -99,7 +83,7 @@ take-value-requires g c κs =
     let j-is = c .job .ensures j in
     let st = c .state-state .result in
     let st-is = c .state-state .ensures st in
-    record { narrow = narrow op net ok e t k r a due o h j j-is st st-is; sound = h .transport-sound; pair = pair op net ok e t k r (c .args .from) (c .args .label) (c .args .merge) due o h j j-is st st-is; legible = legible op net ok e t k r (c .args .from) (c .args .label) (c .args .merge) due o h j j-is st st-is }
+    record { narrow = narrow op net ok e t k r a due o h j j-is st st-is; sound = h .transport-sound; pair = pair op net ok e t k r (c .args .from) (c .args .label) (c .args .merge) due o h j j-is st st-is; legible = subst (λ i. Legible (op (e .operation)) (oldest i (net (e .transport) .arrived (c .args .from) r))) (sym (c .job-tag-tag .ensures)) (legible op net ok e t k r (c .args .from) (c .args .label) (c .args .merge) due o h j j-is st st-is) }
 
 pub returns-in-rest : need.returns-in-rest
 returns-in-rest g c =
@@ -118,7 +102,7 @@ returns-in-rest g c =
     onward op net ok e _ (turn (t .name) (t .number) r) waits (c .take-value .ensures .kept) refl (λ p s. s)
     (λ o h.
     ap (λ n. (waits, with-jobs (e .name) (op (e .operation)) o n (e .started) (pending-jobs (e .jobs)))) (c .take-value .ensures .none (c .in-rest .is))
-    ∙ waits-step op net ok e t k r (c .args .from) (c .args .label) (c .args .merge) due o h j j-is st st-is (sym (c .take-value .ensures .answer) ∙ c .in-rest .is))
+    ∙ waits-step op net ok e t k r (c .args .from) (c .args .label) (c .args .merge) due o h j j-is st st-is (ap (λ i. mail-in (op (e .operation)) (oldest i (net (e .transport) .arrived (c .args .from) r))) (sym (c .job-tag-tag .ensures)) ∙ sym (c .take-value .ensures .answer) ∙ c .in-rest .is))
 
 pub merged-after-requires : need.merged-after-requires
 merged-after-requires g c κs =
@@ -181,4 +165,4 @@ returns g c =
     = λ keep. subst (λ i. take (st .done + 1) (set (i .kept) (st .done) v) ≡ take (st .done) (i .kept) ++ (v ∷ [])) (sym j-is) (c .receive .ensures .front keep j) in
     onward op net ok e _ (turn (t .name) (t .number) r) took (c .take-value .ensures .kept) refl
     (λ p s. subst (Among-ranks p) (sym jobs) (ranks-update p k (with-received r new merge (st .done) v) (received-ranks r new merge (st .done) v) (pending-jobs (e .jobs)) s))
-    (λ o h. took-step op net ok e t k r (c .args .from) (c .args .label) (c .args .merge) due o h j j-is st st-is mail (c .in-Some .ensures tt .answer) (net (c .take-value .last .transport)) (c .take-value .ensures .after) (pending-jobs (c .receive .last .self)) jobs front)
+    (λ o h. took-step op net ok e t k r (c .args .from) (c .args .label) (c .args .merge) due o h j j-is st st-is mail (c .in-Some .ensures tt .answer ∙ ap (λ i. mail-in (op (e .operation)) (oldest i (net (e .transport) .arrived (c .args .from) r))) (c .job-tag-tag .ensures)) (net (c .take-value .last .transport)) (c .take-value .ensures .after ∙ ap (λ i. with-taken (c .args .from) r i (net (e .transport))) (c .job-tag-tag .ensures)) (pending-jobs (c .receive .last .self)) jobs front)

@@ -7,9 +7,6 @@ use Rattle.jobs.specs.Tables.{arrival-at}
 use Rattle.jobs.proofs.job.Job.rounds.Needs as need
 use Rattle.jobs.proofs.job.Job.rounds.Needs.{then-arrival-rounds, else-arrival-rounds}
 
-pub loop-rank-holds : need.loop-rank-holds
-loop-rank-holds g c = λ d. refl
-
 pub loop-rank-again : need.loop-rank-again
 loop-rank-again g c = λ d.
     let j = c .args .self .now in
