@@ -1,5 +1,5 @@
 // Counts the lines, words and bytes of standard input as eight ranks would: each measures its part, and collective jobs
-// over messages join the counts. Before the whole it shows a join that does not commute.
+// over messages join the counts. Then it shows a join that does not commute, and last the whole as `wc` does.
 use operation::affine::Affine;
 use schedule::Collective;
 use std::io;
@@ -12,9 +12,9 @@ use collect::Outcome;
 use collect::over_maps;
 use collect::over_texts;
 use parts::RANKS;
+use parts::Tally;
 use parts::Totals;
 use parts::TotalsDisplay;
-use parts::measure_parts;
 use parts::pack_parts;
 
 const EVERYONE: [usize; RANKS] = [0, 1, 2, 3, 4, 5, 6, 7];
@@ -67,7 +67,8 @@ fn print_maps(rt: &LibcRuntime) -> io::Result<()> {
 fn main(rt: LibcRuntime) -> io::Result<()> {
     let mut text = Vec::new(rt.alloc());
     rt.stdin().read_to_end(&mut text)?;
-    let parts = pack_parts(&measure_parts(text.as_slice()));
+    let tally = Tally::of(text.as_slice());
+    let parts = pack_parts(&tally.parts);
     let mut sums = [0; WORDS];
     let mut whole = [0; WORDS];
     let scan = over_texts(&EVERYONE, Collective::Scan, &parts, &mut sums);
@@ -75,7 +76,9 @@ fn main(rt: LibcRuntime) -> io::Result<()> {
     print_ranks(&rt, &parts, &sums)?;
     print_outcome(&rt, "text scan", scan)?;
     print_outcome(&rt, "text allreduce", allreduce)?;
+    let all = Totals::of_block(&whole[0..WIDTH]);
+    println!(rt, "all ranks {all}")?;
     print_maps(&rt)?;
-    let t = Totals::of_block(&whole[0..WIDTH]);
+    let t = Totals::of(tally.whole);
     println!(rt, "{:>7} {:>7} {:>7}", t.lines, t.words, t.bytes)
 }

@@ -1,4 +1,4 @@
-// A text in as many parts as there are ranks, measured part by part.
+// A text in as many parts as there are ranks, measured part by part and joined in rank order.
 ghost use mathlib.Core.Path.{_≡_};
 ghost use Prim.Native.Nat.{ℕ, _+_, _*_, _≤_, _<_};
 ghost use lib.ListN.{length, getD};
@@ -13,6 +13,13 @@ use operation::text::TextOperation;
 use std::fmt;
 
 pub const RANKS: usize = 8;
+
+// What each rank counts of its part, and the whole text.
+#[derive(Clone, Copy)]
+pub struct Tally {
+    pub parts: [TextElement; RANKS],
+    pub whole: TextElement,
+}
 
 // The counts of a text as numbers, zeros for the empty text.
 #[derive(Clone, Copy)]
@@ -42,7 +49,7 @@ fn measure_part(text: &[u8], rank: usize) -> TextElement
 }
 
 // The element of each rank's part.
-pub fn measure_parts(text: &[u8]) -> [TextElement; RANKS]
+fn measure_parts(text: &[u8]) -> [TextElement; RANKS]
     ensures { λ r. ⌜ PartsMeasured (now (text .entry)) r ⌝ }
 {
     let mut parts = [Text.unit(); RANKS];
@@ -50,6 +57,29 @@ pub fn measure_parts(text: &[u8]) -> [TextElement; RANKS]
         parts[rank] = measure_part(text, rank);
     }
     parts
+}
+
+// The join of all, in rank order.
+fn join_all(parts: &[TextElement]) -> TextElement
+    ensures { λ r. ⌜ r ≡ folded (textMeaning .join) (textMeaning .unit) (now (parts .entry)) ⌝ }
+{
+    let mut sum = Text.unit();
+    for x in parts {
+        sum = Text.join(sum, *x);
+    }
+    sum
+}
+
+impl Tally {
+    // Measures a text in parts; the join of the parts is the measure of the whole.
+    pub fn of(text: &[u8]) -> Tally
+        ensures parts { λ r. ⌜ PartsMeasured (now (text .entry)) (r .parts) ⌝ }
+        ensures whole { λ r. ⌜ r .whole ≡ measured (now (text .entry)) ⌝ }
+    {
+        let parts = measure_parts(text);
+        let whole = join_all(&parts);
+        Tally { parts, whole }
+    }
 }
 
 // Writes the block of a rank's part to its place.
