@@ -10,6 +10,7 @@ use engine::answer::UnknownJob;
 use engine::state::Engine;
 use engine::token::Token;
 use operation::Operation;
+use runner::run;
 use schedule::Collective;
 use transport::Transport;
 
@@ -247,6 +248,96 @@ fn show_and_give_up<O: Operation, T: Transport>(
     }
 }
 
+// Two scans of three ranks: both have a message on the way from 0 to 1, and rank 1 takes the second one's first.
+fn interleave<O: Operation, T: Transport>(
+    engine: &mut Engine<O, T>,
+    first: &Token,
+    second: &Token,
+) -> [Result<Turn, TurnFault>; 6]
+    requires { ⌜ Sound (O·Operation .meaning) (T·Transport .meaning) (T·Transport .sound) (now engine) ⌝ }
+    ensures { λ _. ⌜ Sound (O·Operation .meaning) (T·Transport .meaning) (T·Transport .sound) (now (engine .exit)) ⌝ }
+{
+    let a = engine.turn(first, 0);
+    let b = engine.turn(second, 0);
+    let _ = engine.carry(0, 1);
+    let _ = engine.carry(0, 1);
+    let c = engine.turn(second, 1);
+    let d = engine.turn(second, 1);
+    let e = engine.turn(first, 1);
+    let f = engine.turn(first, 1);
+    [a, b, c, d, e, f]
+}
+
+// How two jobs beside each other came out.
+#[derive(Clone, Copy)]
+struct Beside {
+    turns: [Result<Turn, TurnFault>; 6],
+    first: Result<Tally, EndFault>,
+    second: Result<Tally, EndFault>,
+}
+
+// Interleaves two jobs and ends the first; the second is run to its end, or given up before the first is.
+fn settle_both<O: Operation, T: Transport>(
+    engine: &mut Engine<O, T>,
+    first: Token,
+    slot: Option<Token>,
+    keep: bool,
+    one: &mut [u32],
+    two: &mut [u32],
+) -> Option<Beside>
+    requires { ⌜ Sound (O·Operation .meaning) (T·Transport .meaning) (T·Transport .sound) (now engine) ⌝ }
+    ensures { λ _. ⌜ Sound (O·Operation .meaning) (T·Transport .meaning) (T·Transport .sound) (now (engine .exit)) ⌝ }
+{
+    let Some(second) = slot else {
+        give_up(engine, Some(first));
+        return None;
+    };
+    let turns = interleave(engine, &first, &second);
+    if keep {
+        let _ = run(engine, &first, 16);
+        let _ = run(engine, &second, 16);
+        let first = finish(engine, Some(first), one);
+        let second = finish(engine, Some(second), two);
+        return Some(Beside {
+            turns,
+            first,
+            second,
+        });
+    }
+    give_up(engine, Some(second));
+    let _ = run(engine, &first, 16);
+    let first = finish(engine, Some(first), one);
+    let second = Err(EndFault::UnknownJob);
+    Some(Beside {
+        turns,
+        first,
+        second,
+    })
+}
+
+// Two scans beside each other.
+fn two_scans<O: Operation, T: Transport>(
+    engine: &mut Engine<O, T>,
+    inputs: &[u32],
+    others: &[u32],
+    keep: bool,
+    one: &mut [u32],
+    two: &mut [u32],
+) -> Option<Beside>
+    requires { ⌜ Sound (O·Operation .meaning) (T·Transport .meaning) (T·Transport .sound) (now engine) ⌝ }
+    ensures { λ _. ⌜ Sound (O·Operation .meaning) (T·Transport .meaning) (T·Transport .sound) (now (engine .exit)) ⌝ }
+{
+    let (slot, _) = begin(engine, Collective::Scan, inputs);
+    let (other, _) = begin(engine, Collective::Scan, others);
+    match slot {
+        Some(first) => settle_both(engine, first, other, keep, one, two),
+        None => {
+            give_up(engine, other);
+            None
+        }
+    }
+}
+
 #[cfg(test)]
 mod tests {
     use super::five_jobs;
@@ -255,6 +346,7 @@ mod tests {
     use super::show_to_another;
     use super::spend_numbers;
     use super::start_and_show;
+    use super::two_scans;
     use engine::answer::EndFault;
     use engine::answer::EndFaultDebug;
     use engine::answer::EndFaultPartialEq;
@@ -458,5 +550,57 @@ mod tests {
         check_eq(shown.ended, Ok(nothing))?;
         check_eq(few, [7])?;
         check_eq(out, [2, 1, 7])
+    }
+
+    const OTHERS: [u32; 6] = [5, 6, 3, 4, 2, 1];
+
+    // What the two have in common: each sent and took in its turn.
+    const TURNS: [Result<Turn, TurnFault>; 6] = [
+        Ok(Turn::Sent),
+        Ok(Turn::Sent),
+        Ok(Turn::Sent),
+        Ok(Turn::Took),
+        Ok(Turn::Sent),
+        Ok(Turn::Took),
+    ];
+
+    const SCAN: Tally = Tally {
+        rounds: 2,
+        messages: 3,
+    };
+
+    #[test]
+    fn two_jobs_do_not_mix() -> Result<(), Fail> {
+        let op = Affine::new(10)?;
+        let mut records = [BLANK; 16];
+        let mut engine = Engine::new(7, op, Log::new(3, &mut records));
+        let mut one = [7; 7];
+        let mut two = [7; 7];
+        let seen = two_scans(&mut engine, &MAPS, &OTHERS, true, &mut one, &mut two);
+        let (_, _log) = engine.into_parts();
+        let beside = seen.ok_or("no token")?;
+        check_eq(beside.turns, TURNS)?;
+        check_eq(beside.first, Ok(SCAN))?;
+        check_eq(beside.second, Ok(SCAN))?;
+        check_eq(one, [2, 1, 6, 7, 0, 1, 7])?;
+        check_eq(two, [5, 6, 5, 2, 0, 5, 7])
+    }
+
+    #[test]
+    fn a_job_given_up_leaves_the_other_alone() -> Result<(), Fail> {
+        let op = Affine::new(10)?;
+        let mut records = [BLANK; 16];
+        let mut engine = Engine::new(7, op, Log::new(3, &mut records));
+        let mut one = [7; 6];
+        let mut two = [7; 6];
+        let seen = two_scans(&mut engine, &MAPS, &OTHERS, false, &mut one, &mut two);
+        let (_, log) = engine.into_parts();
+        let waiting = log.waiting();
+        let beside = seen.ok_or("no token")?;
+        check_eq(beside.turns, TURNS)?;
+        check_eq(beside.first, Ok(SCAN))?;
+        check_eq(one, [2, 1, 6, 7, 0, 1])?;
+        check_eq(two, [7; 6])?;
+        check_eq(waiting, 0)
     }
 }
