@@ -52,6 +52,7 @@ pub mod token;
 const MAX_STARTED: u32 = 65535;
 
 impl<O: Operation, T: Transport> Engine<O, T> {
+    // An engine without jobs. Every record of its calls keeps the laws of records.
     pub fn new(name: u16, operation: O, transport: T) -> Engine<O, T>
         requires { ⌜ T·Transport .sound transport ⌝ }
         ensures sound { λ r. ⌜ Sound (O·Operation .meaning) (T·Transport .meaning) (T·Transport .sound) r ⌝ }
@@ -160,6 +161,7 @@ impl<O: Operation, T: Transport> Engine<O, T> {
         token.name == self.name
     }
 
+    // Whether there is such a rank.
     fn has_rank(&self, rank: usize) -> bool
         requires { ⌜ Sound (O·Operation .meaning) (T·Transport .meaning) (T·Transport .sound) (now self) ⌝ }
         ensures { λ r. ⌜ r ≡ ltb rank (T·Transport .meaning (now (self .entry) .transport) .ranks) ⌝ }

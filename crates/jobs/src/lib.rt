@@ -59,6 +59,7 @@ impl<E: Copy> Job<E> {
         Job::new(0, schedule, [x; MAX_RANKS], x)
     }
 
+    // What a rank has come to.
     pub fn state(&self, rank: usize) -> RankState<E>
         requires { ⌜ rank < most-ranks ⌝ }
         ensures { λ r. ⌜ ((d : RankState E) → r ≡ getD (states (now (self .entry))) rank d) ⌝ }
@@ -190,6 +191,7 @@ impl<E: Copy> Job<E> {
         self.put(rank, state, sent);
     }
 
+    // Writes what a rank has come to, and the count of turns answered sent.
     fn put(&mut self, rank: usize, state: RankState<E>, sent: usize)
         requires { ⌜ rank < most-ranks ⌝ }
         ensures { λ _. ⌜ now (self .exit) ≡ with-state rank state sent (now (self .entry)) ⌝ }
@@ -204,6 +206,7 @@ impl<E: Copy> Job<E> {
         self.sent = sent;
     }
 
+    // Keeps a value that the root of a gather has taken.
     fn keep(&mut self, at: usize, value: E)
         requires { ⌜ at < most-ranks ⌝ }
         ensures changed { λ _. ⌜ now (self .exit) ≡ with-kept at value (now (self .entry)) ⌝ }
@@ -214,6 +217,7 @@ impl<E: Copy> Job<E> {
 }
 
 impl<E: Copy> Table<E> {
+    // A table without jobs.
     pub fn new(blank: Job<E>) -> Table<E>
         ensures { λ r. ⌜ pending-jobs r ≡ [] ⌝ }
     {
@@ -223,6 +227,7 @@ impl<E: Copy> Table<E> {
         }
     }
 
+    // How many jobs are pending.
     pub fn len(&self) -> usize
         ensures { λ r. ⌜ r ≡ length (pending-jobs (now (self .entry))) ⌝ }
     {
@@ -262,6 +267,7 @@ impl<E: Copy> Table<E> {
         None
     }
 
+    // What a send of a rank of the job at a place leaves.
     pub fn send(&mut self, i: usize, rank: usize, state: RankState<E>)
         requires { ⌜ (i < length (pending-jobs (now self))) × (rank < most-ranks) × ((d : Job E) → getD (pending-jobs (now self)) i d .sent + 1 < 2 ^ 64) ⌝ }
         ensures { λ _. ⌜ pending-jobs (now (self .exit)) ≡ update i (with-sent rank state) (pending-jobs (now (self .entry))) ⌝ }
@@ -269,6 +275,7 @@ impl<E: Copy> Table<E> {
         self.jobs[i].send(rank, state);
     }
 
+    // What a take of a rank of the job at a place leaves.
     pub fn receive(
         &mut self,
         i: usize,
@@ -307,6 +314,7 @@ impl<E: Copy> Table<E> {
         self.pending = last;
     }
 
+    // Ends the table.
     pub fn discard(self) {
         let Table {
             jobs: _,
