@@ -1,4 +1,6 @@
 // C functions that run one collective job from its start to its end, on memory that the caller lends.
+#![tactic(auto)]
+
 ghost use Rattle.bridge.specs.Given.{collective_at, log_below, mailbox_below};
 ghost use Rattle.bridge.specs.Outcome.{no_collective, no_operation, TurnedAway, ByOperation, Told, Measured};
 ghost use Rattle.std.specs.Prelude.{◌≡◌, length};

@@ -1,5 +1,5 @@
 // What a job came to, in numbers.
-ghost use Rattle.bridge.specs.Outcome.{engine_name, blank as blank_report, word_of, end_status as status_of_end, start_report as report_of_start, status_of as statusOf, report_of as reportOf, Ran};
+ghost use Rattle.bridge.specs.Outcome.{engine_name, blank as blank_report, word_of, end_status as status_of_end, start_report as report_of_start, status_of as status_of_job, report_of as report_of_job, Ran};
 ghost use Rattle.engine.specs.Abs.{plain, Stands, Sound};
 ghost use Rattle.machine.specs.Network.{Network};
 ghost use Rattle.machine.specs.Operation.{Meaning};
@@ -48,7 +48,7 @@ fn end_status(fault: EndFault) -> u32
 
 // 0, or the refusal's number.
 fn status_of(res: Result<Tally, Incomplete>) -> u32
-    ensures { result ≡ statusOf res }
+    ensures { result ≡ status_of_job res }
 {
     match res {
         Ok(_) => 0,
@@ -74,7 +74,7 @@ fn start_report(fault: StartFault) -> Report
 
 // What is told beside the status.
 fn report_of(res: Result<Tally, Incomplete>) -> Report
-    ensures { result ≡ reportOf res }
+    ensures { result ≡ report_of_job res }
 {
     match res {
         Ok(tally) => Report {

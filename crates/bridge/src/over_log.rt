@@ -2,9 +2,9 @@
 // operation.
 ghost use Rattle.bridge.specs.Given.{log_below};
 ghost use Rattle.bridge.specs.Outcome.{RanBy};
-ghost use Rattle.operation.specs.Affine.{affine as affineMeaning};
-ghost use Rattle.operation.specs.Least.{least as leastMeaning};
-ghost use Rattle.operation.specs.Text.{text as textMeaning};
+ghost use Rattle.operation.specs.Affine.{affine as affine_meaning};
+ghost use Rattle.operation.specs.Least.{least as least_meaning};
+ghost use Rattle.operation.specs.Text.{text as text_meaning};
 ghost use Rattle.std.specs.Prelude.{length};
 
 use crate::job::{Job, Report};
@@ -33,7 +33,7 @@ pub(crate) fn maps_over_log(
     out: &mut [u32],
     report: &mut Report,
 ) -> u32
-    ensures { RanBy (log_below given.now.ranks (length records.old)) given.now members.now inputs.now out.old out.new result report.new (affineMeaning maps.modulus) job }
+    ensures { RanBy (log_below given.now.ranks (length records.old)) given.now members.now inputs.now out.old out.new result report.new (affine_meaning maps.modulus) job }
 {
     let log = Log::new(given.ranks, records);
     let group = Group::new(Segmented::new(log), members);
@@ -53,7 +53,7 @@ pub(crate) fn texts_over_log(
     out: &mut [u32],
     report: &mut Report,
 ) -> u32
-    ensures { RanBy (log_below given.now.ranks (length records.old)) given.now members.now inputs.now out.old out.new result report.new textMeaning job }
+    ensures { RanBy (log_below given.now.ranks (length records.old)) given.now members.now inputs.now out.old out.new result report.new text_meaning job }
 {
     let log = Log::new(given.ranks, records);
     let group = Group::new(Segmented::new(log), members);
@@ -73,7 +73,7 @@ pub(crate) fn leasts_over_log(
     out: &mut [u32],
     report: &mut Report,
 ) -> u32
-    ensures { RanBy (log_below given.now.ranks (length records.old)) given.now members.now inputs.now out.old out.new result report.new leastMeaning job }
+    ensures { RanBy (log_below given.now.ranks (length records.old)) given.now members.now inputs.now out.old out.new result report.new least_meaning job }
 {
     let log = Log::new(given.ranks, records);
     let group = Group::new(Segmented::new(log), members);

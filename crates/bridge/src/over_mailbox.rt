@@ -2,9 +2,9 @@
 // operation.
 ghost use Rattle.bridge.specs.Given.{mailbox_below};
 ghost use Rattle.bridge.specs.Outcome.{RanBy};
-ghost use Rattle.operation.specs.Affine.{affine as affineMeaning};
-ghost use Rattle.operation.specs.Least.{least as leastMeaning};
-ghost use Rattle.operation.specs.Text.{text as textMeaning};
+ghost use Rattle.operation.specs.Affine.{affine as affine_meaning};
+ghost use Rattle.operation.specs.Least.{least as least_meaning};
+ghost use Rattle.operation.specs.Text.{text as text_meaning};
 ghost use Rattle.std.specs.Prelude.{length};
 
 use crate::job::{Job, Report};
@@ -33,7 +33,7 @@ pub(crate) fn maps_over_mailbox(
     out: &mut [u32],
     report: &mut Report,
 ) -> u32
-    ensures { RanBy (mailbox_below given.now.ranks depth (length words.old)) given.now members.now inputs.now out.old out.new result report.new (affineMeaning maps.modulus) job }
+    ensures { RanBy (mailbox_below given.now.ranks depth (length words.old)) given.now members.now inputs.now out.old out.new result report.new (affine_meaning maps.modulus) job }
 {
     let boxes = Mailbox::new(given.ranks, depth, words);
     let group = Group::new(Segmented::new(boxes), members);
@@ -54,7 +54,7 @@ pub(crate) fn texts_over_mailbox(
     out: &mut [u32],
     report: &mut Report,
 ) -> u32
-    ensures { RanBy (mailbox_below given.now.ranks depth (length words.old)) given.now members.now inputs.now out.old out.new result report.new textMeaning job }
+    ensures { RanBy (mailbox_below given.now.ranks depth (length words.old)) given.now members.now inputs.now out.old out.new result report.new text_meaning job }
 {
     let boxes = Mailbox::new(given.ranks, depth, words);
     let group = Group::new(Segmented::new(boxes), members);
@@ -75,7 +75,7 @@ pub(crate) fn leasts_over_mailbox(
     out: &mut [u32],
     report: &mut Report,
 ) -> u32
-    ensures { RanBy (mailbox_below given.now.ranks depth (length words.old)) given.now members.now inputs.now out.old out.new result report.new leastMeaning job }
+    ensures { RanBy (mailbox_below given.now.ranks depth (length words.old)) given.now members.now inputs.now out.old out.new result report.new least_meaning job }
 {
     let boxes = Mailbox::new(given.ranks, depth, words);
     let group = Group::new(Segmented::new(boxes), members);

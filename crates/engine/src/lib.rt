@@ -1,4 +1,6 @@
 // An engine that runs collective jobs, over any operation and any transport.
+#![tactic(auto)]
+
 ghost use Rattle.std.specs.Prelude.{◌≡◌, ◌+◌, ◌*◌, ◌^◌, ◌<◌, ◌≤◌, max, length, if◌then◌else◌, ◌==◌, nat_lt};
 ghost use Rattle.std.specs.List.{AllByRecursion as All};
 ghost use Rattle.programme.specs.declared.Action.TheVariants.{Send, Take};

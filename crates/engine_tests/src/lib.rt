@@ -1,5 +1,7 @@
 // Tests of the engine: each refusal at its place and in its order, jobs beside each other, and jobs given up.
 // A token must not fall, so a test spends its tokens first and compares what it saw last.
+#![tactic(auto)]
+
 ghost use Rattle.engine.specs.Abs.{Sound};
 
 use engine::answer::{EndFault, StartFault, Tally, Turn, TurnFault, UnknownJob};

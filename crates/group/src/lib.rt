@@ -1,4 +1,6 @@
 // Some ranks of any transport, with numbers of their own.
+#![tactic(auto)]
+
 ghost use Rattle.std.specs.Prelude.{◌≡◌, ℕ, ◌+◌, ◌-◌, ◌<◌, ◌≤◌, true, false, length, Decides, ◌≢◌, nat_lt, slice_index};
 ghost use Rattle.ranks.specs.Ranks.{most_ranks};
 ghost use Rattle.transport.specs.Network.{waiting as waiting_in_all, nobody};

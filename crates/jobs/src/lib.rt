@@ -1,4 +1,6 @@
 // The pending jobs of an engine, by place.
+#![tactic(auto)]
+
 ghost use Rattle.std.specs.Prelude.{◌≡◌, ℕ, ◌+◌, ◌^◌, ◌<◌, ◌≤◌, true, [], ◌∷◌, ◌++◌, length, get_or, take, is_some, slice_index_or, slice_set};
 ghost use Rattle.std.specs.List.{slice_get, remove};
 ghost use Rattle.ranks.specs.Ranks.{most_ranks, greatest_below};

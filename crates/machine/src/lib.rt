@@ -1,4 +1,6 @@
 // The plain machine: what the calls of an engine answer, by the rules alone.
+#![tactic(auto)]
+
 ghost use Rattle.machine.specs.Figures.{Figures};
 ghost use Rattle.machine.specs.Laws.{MachineLaws, RecordLaws};
 ghost use Rattle.machine.specs.Runs.{Runs};

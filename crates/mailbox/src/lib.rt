@@ -1,4 +1,6 @@
 // A matrix of mailboxes over lent words: a row of slots for each ordered pair of ranks.
+#![tactic(auto)]
+
 ghost use Rattle.std.specs.Prelude.{◌≡◌, ℕ, ◌+◌, ◌-◌, ◌*◌, ◌<◌, ◌≤◌, true, false, ◌⊎◌, ◌++◌, length, drop, ◌≢◌};
 ghost use Rattle.ranks.specs.Ranks.{most_ranks, pair_ok};
 ghost use Rattle.transport.specs.Network.{message};

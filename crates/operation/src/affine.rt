@@ -1,6 +1,6 @@
 // Maps y → a × y + b modulo m. The join does the left map first.
 ghost use Rattle.std.specs.Prelude.{◌≡◌, ◌≤◌, Ok, Err, MatchResult};
-ghost use Rattle.operation.specs.Affine.{affine as affineMeaning, accepted_modulus};
+ghost use Rattle.operation.specs.Affine.{affine as affine_meaning, accepted_modulus};
 ghost use Rattle.operation.specs.AffineLaws.{affine_monoid, affine_packing};
 ghost use Rattle.std.proofs.Common.{rules, arith};
 
@@ -46,9 +46,9 @@ impl Affine {
 impl Operation for Affine {
     type Element = AffineElement;
 
-    ghost meaning = { λ o. affineMeaning o.modulus };
+    ghost meaning = { λ o. affine_meaning o.modulus };
 
-    ghost wide = { first_of (Prim.search rules, Prim.grind (arith, Self.row.coded.inj)) };
+    ghost wide = { Prim.search rules };
 
     ghost monoid = { λ o. affine_monoid o.modulus o.ok.0 o.ok.1 };
 

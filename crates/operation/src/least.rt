@@ -1,6 +1,6 @@
 // The least of signed values, with the place where it stands; of equal values the smaller place.
 ghost use Rattle.std.specs.Prelude.{◌≡◌};
-ghost use Rattle.operation.specs.Least.{least as leastMeaning, first, biased, unbiased, none_read};
+ghost use Rattle.operation.specs.Least.{least as least_meaning, first, biased, unbiased, none_read};
 ghost use Rattle.operation.specs.LeastLaws.{least_monoid, least_packing};
 ghost use Rattle.std.proofs.Common.{rules};
 
@@ -60,7 +60,7 @@ pub struct Least;
 impl Operation for Least {
     type Element = Option<Placed>;
 
-    ghost meaning = { λ _. leastMeaning };
+    ghost meaning = { λ _. least_meaning };
 
     ghost wide = { Prim.search rules };
 

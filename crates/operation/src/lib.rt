@@ -1,4 +1,6 @@
 // Operations on elements: a unit, an associative join, and blocks of words that stand for elements.
+#![tactic(auto)]
+
 ghost use Rattle.std.specs.Prelude.{◌≡◌, ◌≤◌};
 ghost use Rattle.operation.specs.Meaning.{Meaning, Monoid, Packing, widest, written};
 

@@ -1,6 +1,6 @@
 // Bytes, lines and words of a text, counted in parts that can be joined.
 ghost use Rattle.std.specs.Prelude.{◌≡◌, [], ◌∷◌};
-ghost use Rattle.operation.specs.Text.{text as textMeaning, measured, counts_join, edge_of, empty_read, MeasureJoins};
+ghost use Rattle.operation.specs.Text.{text as text_meaning, measured, counts_join, edge_of, empty_read, MeasureJoins};
 ghost use Rattle.operation.specs.Runs.{WordsAreRuns};
 ghost use Rattle.operation.specs.TextLaws.{text_monoid, text_packing};
 ghost use Rattle.std.proofs.Common.{rules};
@@ -126,7 +126,7 @@ fn read_empty(bytes: u32, lines: u32, words: u32) -> Result<TextElement, BlockFa
 impl Operation for Text {
     type Element = TextElement;
 
-    ghost meaning = { λ _. textMeaning };
+    ghost meaning = { λ _. text_meaning };
 
     ghost wide = { Prim.search rules };
 

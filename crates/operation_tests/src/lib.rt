@@ -1,4 +1,6 @@
 // Tests of the operations, by examples.
+#![tactic(auto)]
+
 #[cfg(test)]
 mod tests {
     use operation::Operation;

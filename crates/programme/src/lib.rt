@@ -1,4 +1,6 @@
 // The six collectives as schedules: for each rank, the list of its sends and takes.
+#![tactic(auto)]
+
 ghost use Rattle.programme.specs.Answer.{Answers};
 ghost use Rattle.programme.specs.Outcome.{ComesOut};
 ghost use Rattle.programme.specs.Progress.{Flows};

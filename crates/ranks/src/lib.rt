@@ -1,4 +1,6 @@
 // Ranks: how many there may be, and which two are a pair.
+#![tactic(auto)]
+
 ghost use Rattle.std.specs.Prelude.{◌≡◌};
 ghost use Rattle.ranks.specs.Ranks.{pair_ok};
 

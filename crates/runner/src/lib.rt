@@ -1,4 +1,6 @@
 // Drives one job by sweeps, and runs one from its start to its end.
+#![tactic(auto)]
+
 ghost use Rattle.std.specs.Prelude.{◌≡◌, ◌<◌, ◌≤◌, true};
 ghost use Rattle.machine.specs.Network.{Network};
 ghost use Rattle.machine.specs.Call.{look};

@@ -1,4 +1,6 @@
 // The schedules of the six collectives, one action at a time.
+#![tactic(auto)]
+
 ghost use Rattle.std.specs.Prelude.{◌≡◌, ◌<◌, ◌≤◌, length, None, MatchOption};
 ghost use Rattle.programme.specs.Progress.{Flow};
 ghost use Rattle.schedule.specs.Collective.{kind_of, root_in, root_of, Allowed, NamesOther, actions_of, rounds_of, messages_of};

@@ -1,5 +1,7 @@
 // Prints every programme of every collective among 1 to 8 and 13 ranks, with its rounds and messages, from the code. What it has
 // to print was written by a script that works the programmes out anew.
+#![tactic(auto)]
+
 ghost use Rattle.schedule_tests.specs.Messages.{Agrees};
 
 use programme::{Action, Merge};

@@ -1,4 +1,6 @@
 // A transport of messages of up to seven words over any other transport.
+#![tactic(auto)]
+
 ghost use Rattle.std.specs.Prelude.{◌≡◌, ℕ, ◌+◌, ◌-◌, ◌*◌, ◌/◌, ◌<◌, ◌≤◌, min, true, ◌++◌, length, take, drop, is_some, if◌then◌else◌, Some, Ok, nat_lt, slice_index};
 ghost use Rattle.std.specs.List.{flat_map};
 ghost use Rattle.ranks.specs.Ranks.{pair_ok};

@@ -1,4 +1,6 @@
 // A transport over lent records: the messages of all pairs in one row, in the order in which they were sent.
+#![tactic(auto)]
+
 ghost use Rattle.std.specs.Prelude.{◌≡◌, ℕ, ◌+◌, ◌-◌, ◌<◌, ◌≤◌, min, true, false, length, take, if◌then◌else◌, Some, filter};
 ghost use Rattle.std.specs.List.{remove};
 ghost use Rattle.transport.specs.Network.{written};

@@ -1,5 +1,7 @@
 // Counts the lines, words and bytes of standard input as eight ranks would: each measures its part, and collective jobs
 // over messages join the counts. Then it shows a join that does not commute, and last the whole as `wc` does.
+#![tactic(auto)]
+
 use operation::affine::Affine;
 use schedule::Collective;
 use std::io;

@@ -1,6 +1,6 @@
 // A text in as many parts as there are ranks, measured part by part and joined in rank order.
 ghost use Rattle.std.specs.Prelude.{◌≡◌, ℕ, ◌+◌, ◌*◌, ◌<◌, ◌≤◌, length, fold};
-ghost use Rattle.operation.specs.Text.{measured, text as textMeaning};
+ghost use Rattle.operation.specs.Text.{measured, text as text_meaning};
 ghost use Rattle.operation.specs.declared.text.TextElement.TheVariants.{Empty};
 ghost use Rattle.tally.specs.Parts.{cut_at, part_of, PartsMeasured, totals_of};
 
@@ -57,7 +57,7 @@ fn measure_parts(text: &[u8]) -> [TextElement; RANKS]
 
 // The join of all, in rank order.
 fn join_all(parts: &[TextElement]) -> TextElement
-    ensures { result ≡ fold textMeaning.join textMeaning.unit parts.now }
+    ensures { result ≡ fold text_meaning.join text_meaning.unit parts.now }
 {
     let mut sum = Text.unit();
     for x in parts {

@@ -1,4 +1,6 @@
 // Transports of messages between ranks: one trait, one meaning, and why a call is refused.
+#![tactic(auto)]
+
 ghost use Rattle.std.specs.Prelude.{◌≡◌, ℕ, ◌<◌, ◌≤◌, length};
 ghost use Rattle.transport.specs.Network.{Network, Shaped, message, fault_number};
 ghost use Rattle.transport.specs.Network.{sending, carrying, taking, counting};

@@ -1,4 +1,6 @@
 // Every kind of transport in use: a round trip that is proved for all of them, and tests of each.
+#![tactic(auto)]
+
 ghost use Rattle.std.specs.Prelude.{◌≡◌, ◌≤◌, ◌++◌, length, drop};
 ghost use Rattle.transport.specs.Network.{waiting as waiting_in_all, send_reply, done, taking, value};
 

@@ -8,7 +8,7 @@ pub loop-b-preserved : goal.loop-b-preserved
 loop-b-preserved c = (
   omega arith,
   c.join-sum.ensures
-      ∙ ap₂ text_join c.loop-b.invariant.1 c.measure-byte.ensures
+      ∙ ap₂ text_join c.loop-b.invariant.1 c.measure_byte.ensures
       ∙ measured_next c.args.bytes.now c.loop-b.b-index _ c.loop-b-test.true refl,
 )
 
