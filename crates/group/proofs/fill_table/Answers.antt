@@ -32,5 +32,5 @@ loop-i-preserved c =
     let w : c.loop-i.i - 0 ≡ c.loop-i.i = omega arith in (
       inside_more c.args.below c.args.ranks.now i c.loop-i-test.true c.loop-i.invariant.0 c.if-rank-below.false,
       distinct_more c.args.below c.args.ranks.now i c.loop-i-test.true (i - 0) w c.loop-i.invariant.1 (λ r. false≢true (c.if-lists.ensures.1 r)),
-      filled_more c.args.below c.args.ranks.now i c.loop-i-test.true c.loop-i.table (omega (arith, c.loop-i.auto.table, c.requires, c.loop-i-test.true, c.if-count-gt-MAX-RANKS.false)) c.loop-i.invariant.2,
+      filled_more c.args.below c.args.ranks.now i c.loop-i-test.true c.loop-i.table (omega (arith, c.loop-i.auto.table, c.requires, c.loop-i-test.true, c.if-count-gt-MAX_RANKS.false)) c.loop-i.invariant.2,
     )

@@ -5,16 +5,16 @@ use Rattle.transport.proofs.Passes.{here, passed, passed_all}
 use Rattle.mailbox.proofs.Rows.{length-row, get_d_row}
 use Rattle.mailbox.proofs.find.Goals as goal
 
-pub returns-then-is-wanted : goal.returns-then-is-wanted
-returns-then-is-wanted c =
+pub returns-then-is_wanted : goal.returns-then-is_wanted
+returns-then-is_wanted c =
     let f = slot_at c.args.words.now in
     let l = row f c.args.base c.args.depth in
     let inside : c.loop-k.k < length (row (slot_at c.args.words.now) c.args.base c.args.depth) = omega (arith, length-row f c.args.base c.args.depth, c.loop-k-test.true) in
-    let x : Slot = c.read-slot.result in
-    let at = c.read-slot.ensures ∙ sym (get_d_row f c.args.base c.args.depth c.loop-k.k x c.loop-k-test.true) in (
+    let x : Slot = c.read_slot.result in
+    let at = c.read_slot.ensures ∙ sym (get_d_row f c.args.base c.args.depth c.loop-k.k x c.loop-k-test.true) in (
       inside,
       c.loop-k.invariant,
-      here (fits c.args.wanted) l c.loop-k.k x inside (c.if-is-wanted.ensures ∙ ap (fits c.args.wanted) at),
+      here (fits c.args.wanted) l c.loop-k.k x inside (c.if-is_wanted.ensures ∙ ap (fits c.args.wanted) at),
     )
 
 pub loop-k-preserved : goal.loop-k-preserved
@@ -22,9 +22,9 @@ loop-k-preserved c =
     let f = slot_at c.args.words.now in
     let l = row f c.args.base c.args.depth in
     let inside : c.loop-k.k < length (row (slot_at c.args.words.now) c.args.base c.args.depth) = omega (arith, length-row f c.args.base c.args.depth, c.loop-k-test.true) in
-    let x : Slot = c.read-slot.result in
-    let at = c.read-slot.ensures ∙ sym (get_d_row f c.args.base c.args.depth c.loop-k.k x c.loop-k-test.true) in
-    passed (fits c.args.wanted) l c.loop-k.k x inside c.loop-k.invariant (c.if-is-wanted.ensures ∙ ap (fits c.args.wanted) at)
+    let x : Slot = c.read_slot.result in
+    let at = c.read_slot.ensures ∙ sym (get_d_row f c.args.base c.args.depth c.loop-k.k x c.loop-k-test.true) in
+    passed (fits c.args.wanted) l c.loop-k.k x inside c.loop-k.invariant (c.if-is_wanted.ensures ∙ ap (fits c.args.wanted) at)
 
 pub returns : goal.returns
 returns c =

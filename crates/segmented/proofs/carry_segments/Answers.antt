@@ -7,12 +7,12 @@ use Rattle.segmented.proofs.Coding.{pieces_some}
 use Rattle.segmented.proofs.Steps.{refused_moved}
 use Rattle.segmented.proofs.carry_segments.Goals as goal
 
-pub returns-in-err-moved : goal.returns-in-err-moved
-returns-in-err-moved g c =
+pub returns-in_err-moved : goal.returns-in_err-moved
+returns-in_err-moved g c =
     let t = g.T.Transport in
     let n = t.meaning c.args.below.now in
     refused_moved _ _
-    (c.in-err-moved.ensures.answer
+    (c.in_err-moved.ensures.answer
     ∙ ap (λ m. carry_reply m c.args.from c.args.to) c.loop.invariant.1
     ∙ carried_reply n c.args.from c.args.to c.loop.counter c.requires.pair)
 
@@ -26,7 +26,7 @@ loop-preserved g c =
           ∙ ap (λ m. after_carry m c.args.from c.args.to) c.loop.invariant.1
           ∙ carried_one n c.args.from c.args.to c.loop.counter c.requires.pair,
       (λ _.
-          c.in-ok-moved.ensures.answer
+          c.in_ok-moved.ensures.answer
           ∙ ap (λ m. carry_reply m c.args.from c.args.to) c.loop.invariant.1
           ∙ carried_reply n c.args.from c.args.to c.loop.counter c.requires.pair
           ∙ ap (λ j. some_moved (drop j (n.under c.args.from c.args.to))) (sym k)),
@@ -36,7 +36,7 @@ pub returns : goal.returns
 returns g c =
     let t = g.T.Transport in
     let n = t.meaning c.args.below.now in
-    let first : c.loop.counter ≡ pieces c.limit.result = omega (arith, c.loop-test.false, c.loop.auto.counter-end, c.pieces-over-end.ensures.value) in
+    let first : c.loop.counter ≡ pieces c.limit.result = omega (arith, c.loop-test.false, c.loop.auto.counter-end, c.pieces_over-end.ensures.value) in
     let all : c.loop.counter ≡ pieces t.most = first ∙ ap pieces c.limit.ensures in
     let some : 0 < c.loop.counter = omega (arith, pieces_some t.most c.requires.some, all) in
     record {

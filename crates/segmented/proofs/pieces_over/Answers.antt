@@ -7,5 +7,5 @@ pub returns : goal.returns
 unfolding pieces
 returns c =
     let e : (8 + c.args.limit) - 1 ≡ 7 + c.args.limit = omega arith in
-    let q = c.quotient-up.ensures ∙ ap (λ n. n / c.args.limit) e in
+    let q = c.quotient_up.ensures ∙ ap (λ n. n / c.args.limit) e in
     record { value = q; some = omega (arith, q, pieces_some c.args.limit c.requires.0) }

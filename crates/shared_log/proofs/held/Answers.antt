@@ -4,8 +4,8 @@ use Rattle.shared_log.proofs.held.Goals as goal
 
 pub returns : goal.returns
 returns c =
-    let after = c.copy-from-slice.ensures.after in
+    let after = c.copy_from_slice.ensures.after in
     record {
       len = simp (length-append, length-drop) (omega (arith, ap length after, c.requires));
-      front = take_at c.copy-from-slice.new.self _ (length c.args.words.now) (ap length after) ∙ after;
+      front = take_at c.copy_from_slice.new.self _ (length c.args.words.now) (ap length after) ∙ after;
     }

@@ -7,12 +7,12 @@ use Rattle.group.specs.Members.{open_group, grouped, Grouping}
 use Rattle.group.proofs.Layer.{open_is, take_same, taken_same, after_take_group, after_take_grouping}
 use Rattle.group.proofs.GroupTransport.take.Goals as goal
 
-pub returns-then-not-is-pair : goal.returns-then-not-is-pair
-returns-then-not-is-pair g c =
+pub returns-then-not-is_pair : goal.returns-then-not-is_pair
+returns-then-not-is_pair g c =
     let t = g.T.Transport in
     let l = c.args.self.now in
     let n = t.meaning l.below in
-    let e = layer_pair t.most l.count (open_group l.count l.table n) refl c.args.from c.args.to false (sym c.if-not-is-pair.ensures) in
+    let e = layer_pair t.most l.count (open_group l.count l.table n) refl c.args.from c.args.to false (sym c.if-not-is_pair.ensures) in
     record {
       answer = sym (take-bad (grouped t.most l.count l.table n) c.args.from c.args.to c.args.tag c.args.buffer.now e);
       words = sym (taken_bad (grouped t.most l.count l.table n) c.args.from c.args.to c.args.tag c.args.buffer.now e);
@@ -26,12 +26,12 @@ returns g c =
     let l = c.args.self.now in
     let n = t.meaning l.below in
     let shape = t.shaped l.below c.requires.0 in
-    let e = sym c.if-not-is-pair.ensures in
+    let e = sym c.if-not-is_pair.ensures in
     let h = pair_positive l.count c.args.from c.args.to e in
     let o = open_is t.most l.count l.table n h in
     let size = length c.args.buffer.now in
     let k = c.take.ensures in
-    let pairs = c.pair-below-from.ensures in
+    let pairs = c.pair_below-from.ensures in
     let after = k.after ∙ ap (λ (q : ℕ × ℕ). after_take n q.0 q.1 c.args.tag (length c.args.buffer.now)) pairs in
     record {
       answer = k.answer ∙ ap (λ (q : ℕ × ℕ). take-reply n q.0 q.1 c.args.tag (length c.args.buffer.now)) pairs ∙ take_same t.most l.count l.table n shape c.requires.1 h c.args.from c.args.to e c.args.tag size ∙ ap (λ x. take-reply x c.args.from c.args.to c.args.tag size) (sym o);

@@ -4,10 +4,10 @@ use Rattle.mailbox.specs.Matrix.{mailbox_network, SoundBox}
 use Rattle.mailbox.proofs.Calls.{usable_parts, closed_is, closed_sound, fresh_is, fresh_sound}
 use Rattle.mailbox.proofs.Mailbox.new.Goals as goal
 
-pub returns-then-not-is-usable : goal.returns-then-not-is-usable
-returns-then-not-is-usable c =
+pub returns-then-not-is_usable : goal.returns-then-not-is_usable
+returns-then-not-is_usable c =
     let ws = c.args.words.now in
-    let bad = sym c.if-not-is-usable.ensures in
+    let bad = sym c.if-not-is_usable.ensures in
     record { meaning = closed_is ws ∙ rw bad refl; sound = closed_sound ws; written = rw bad refl }
 
 pub returns : goal.returns
@@ -15,10 +15,10 @@ returns c =
     let p = c.args.ranks in
     let d = c.args.depth in
     let ws = c.args.words.now in
-    let good = sym c.if-not-is-usable.ensures in
+    let good = sym c.if-not-is_usable.ensures in
     let parts = usable_parts p d (length ws) good in
-    let size : length (take (4 * c.slot-count-needed.result - 0) c.args.words.now) ≡ 4 * (c.args.ranks * c.args.ranks * c.args.depth) =
-    omega (arith, length-take (4 * c.slot-count-needed.result - 0) ws, c.slot-count-needed.ensures, parts.3) in
+    let size : length (take (4 * c.slot_count-needed.result - 0) c.args.words.now) ≡ 4 * (c.args.ranks * c.args.ranks * c.args.depth) =
+    omega (arith, length-take (4 * c.slot_count-needed.result - 0) ws, c.slot_count-needed.ensures, parts.3) in
     let zeros : c.fill.new.self ≡ replicate (4 * (c.args.ranks * c.args.ranks * c.args.depth)) 0 =
     c.fill.ensures.after (λ y e. e) ∙ ap (λ (k : ℕ). replicate k 0) size in
     record {

@@ -2,8 +2,8 @@ use Rattle.std.proofs.Common.{sym, arith}
 use Rattle.schedule.proofs.allreduce.exchange_action.Goals as goal
 use Rattle.schedule.proofs.Exchanges.{exchange_past, exchange_send, exchange_take}
 
-pub returns-then-k-floor-log2 : goal.returns-then-k-floor-log2
-returns-then-k-floor-log2 c = exchange_past _ _ _ (omega arith)
+pub returns-then-k-floor_log2 : goal.returns-then-k-floor_log2
+returns-then-k-floor_log2 c = exchange_past _ _ _ (omega arith)
 
 pub returns-then-index-eq0 : goal.returns-then-index-eq0
 returns-then-index-eq0 c = exchange_send _ _ _ _ (omega arith) (omega arith) c.partner.ensures

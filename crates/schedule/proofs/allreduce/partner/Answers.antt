@@ -5,6 +5,6 @@ use Rattle.schedule.proofs.Exchanges.{below_twice}
 pub flipped-requires : goal.flipped-requires
 flipped-requires c = omega (arith, below_twice c.args.ranks c.args.number c.args.k (omega arith) (omega arith) (omega arith))
 
-pub rank-with-requires : goal.rank-with-requires
-rank-with-requires c =
+pub rank_with-requires : goal.rank_with-requires
+rank_with-requires c =
     (omega arith, (omega arith, omega (arith, below_twice c.args.ranks c.args.number c.args.k (omega arith) (omega arith) (omega arith))))

@@ -3,7 +3,7 @@ use Rattle.schedule.proofs.reduce.action.Goals as goal
 use Rattle.schedule.proofs.Trees.{in_tree, after_tree, past, delivery_known}
 
 pub returns-then-index-end : goal.returns-then-index-end
-returns-then-index-end c = c.tree-action.ensures ∙ in_tree _ c.args.root _ _ (omega arith)
+returns-then-index-end c = c.tree_action.ensures ∙ in_tree _ c.args.root _ _ (omega arith)
 
 pub returns-then-index-end-2 : goal.returns-then-index-end-2
 returns-then-index-end-2 c = after_tree c.args.ranks c.args.root c.args.rank _ c.delivery.ensures _ (omega arith)

@@ -9,7 +9,7 @@ returns-then-rank-eq0 c =
 pub returns-else-rank-eq0 : goal.returns-else-rank-eq0
 returns-else-rank-eq0 c =
     record {
-      is = omega (arith, other_takes c.args.ranks c.args.rank c.requires c.lowest-bit.result c.lowest-bit.ensures.below c.lowest-bit.ensures.here);
+      is = omega (arith, other_takes c.args.ranks c.args.rank c.requires c.lowest_bit.result c.lowest_bit.ensures.below c.lowest_bit.ensures.here);
       above = omega arith;
       within = omega arith;
     }

@@ -10,7 +10,7 @@ returns-then-rank-eq0 c = zero_past c.args.ranks c.args.rank c.requires _ c.if-r
 
 pub returns-then-index-takes-2 : goal.returns-then-index-takes-2
 returns-then-index-takes-2 c =
-    tree_send c.args.ranks c.args.rank c.requires _ _ _ (omega arith) c.lowest-bit-k.ensures.below c.lowest-bit-k.ensures.here c.below.ensures
+    tree_send c.args.ranks c.args.rank c.requires _ _ _ (omega arith) c.lowest_bit-k.ensures.below c.lowest_bit-k.ensures.here c.below.ensures
 
 pub returns-else-index-takes-2 : goal.returns-else-index-takes-2
 returns-else-index-takes-2 c = other_past c.args.ranks c.args.rank c.requires _ c.if-rank-eq0.false (omega arith)

@@ -8,7 +8,7 @@ returns g c =
     let t = g.T.Transport in
     let n = t.meaning c.args.below in
     let shape = t.shaped c.args.below c.requires in
-    let e = c.usable-ranks-ranks.ensures in
+    let e = c.usable_ranks-ranks.ensures in
     record {
       held = refl;
       meaning = ap (λ p. segmented t.most p n) e ∙ new_is t.most n shape;

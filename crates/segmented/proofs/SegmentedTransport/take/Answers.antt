@@ -6,12 +6,12 @@ use Rattle.transport.proofs.Shapes.{layer_pair}
 use Rattle.segmented.proofs.Calls.{limit_is, pair_below, limit_some, ok_same, found_none, found_some, held_length, held_words, layer_absent, layer_unwritten, layer_count, layer_words, layer_short, layer_taken, layer_taken_whole}
 use Rattle.segmented.proofs.SegmentedTransport.take.Goals as goal
 
-pub returns-then-not-is-pair : goal.returns-then-not-is-pair
-returns-then-not-is-pair g c =
+pub returns-then-not-is_pair : goal.returns-then-not-is_pair
+returns-then-not-is_pair g c =
     let t = g.T.Transport in
     let l = c.args.self.now in
     let n = t.meaning l.below in
-    let e = layer_pair 7 l.ranks (open_network (pieces t.most) l.ranks n) refl c.args.from c.args.to false (sym c.if-not-is-pair.ensures) in
+    let e = layer_pair 7 l.ranks (open_network (pieces t.most) l.ranks n) refl c.args.from c.args.to false (sym c.if-not-is_pair.ensures) in
     record {
       answer = sym (take-bad (segmented t.most l.ranks n) c.args.from c.args.to c.args.tag c.args.buffer.now e);
       words = sym (taken_bad (segmented t.most l.ranks n) c.args.from c.args.to c.args.tag c.args.buffer.now e);
@@ -24,7 +24,7 @@ returns-then-buffer-lt-WORDS g c =
     let t = g.T.Transport in
     let l = c.args.self.now in
     let n = t.meaning l.below in
-    let e = layer_pair 7 l.ranks (open_network (pieces t.most) l.ranks n) refl c.args.from c.args.to true (sym c.if-not-is-pair.ensures) in
+    let e = layer_pair 7 l.ranks (open_network (pieces t.most) l.ranks n) refl c.args.from c.args.to true (sym c.if-not-is_pair.ensures) in
     let h : length c.args.buffer.now < (segmented t.most l.ranks n).limit = omega (arith, limit_is t.most l.ranks n, c.if-buffer-lt-WORDS.true) in
     record {
       answer = sym (take_short (segmented t.most l.ranks n) c.args.from c.args.to c.args.tag c.args.buffer.now e h);
@@ -38,10 +38,10 @@ returns-then-not-branch g c =
     let t = g.T.Transport in
     let l = c.args.self.now in
     let n = t.meaning l.below in
-    let e = sym c.if-not-is-pair.ensures in
-    let k = c.in-ok-take-segments.ensures in
+    let e = sym c.if-not-is_pair.ensures in
+    let k = c.in_ok-take_segments.ensures in
     let o = found_none (oldest c.args.tag (decode (pieces t.most) (n.arrived c.args.from c.args.to))) (sym (ok_same _ _ k.answer) ∙ c.if-not-branch.true) in
-    let after = t.meaning c.take-segments.new.below in
+    let after = t.meaning c.take_segments.new.below in
     record {
       answer = layer_absent t.most l.ranks n c.requires.1 c.args.from c.args.to e c.args.tag c.args.buffer.now c.if-buffer-lt-WORDS.false o;
       words = layer_unwritten t.most l.ranks n c.requires.1 c.args.from c.args.to e c.args.tag c.args.buffer.now c.if-buffer-lt-WORDS.false o;
@@ -54,26 +54,26 @@ unpack-requires g c =
     let t = g.T.Transport in
     let l = c.args.self.now in
     let n = t.meaning l.below in
-    let e = sym c.if-not-is-pair.ensures in
-    let k = c.in-ok-take-segments.ensures in
+    let e = sym c.if-not-is_pair.ensures in
+    let k = c.in_ok-take_segments.ensures in
     let f = found_some (oldest c.args.tag (decode (pieces t.most) (n.arrived c.args.from c.args.to))) (sym (ok_same _ _ k.answer) ∙ c.if-not-branch.false) in
     let short = layer_short t.most l.ranks n c.requires.1 c.args.from c.args.to e c.args.tag c.args.buffer.now c.if-buffer-lt-WORDS.false f.0 f.1 in
-    let long : 8 ≤ length c.take-segments.new.block = omega (arith, c.take-segments.auto.block) in
-    (long, (omega (arith, held_length c.take-segments.new.block f.0.words long short (k.words f.0 f.1), short), c.if-buffer-lt-WORDS.false))
+    let long : 8 ≤ length c.take_segments.new.block = omega (arith, c.take_segments.auto.block) in
+    (long, (omega (arith, held_length c.take_segments.new.block f.0.words long short (k.words f.0 f.1), short), c.if-buffer-lt-WORDS.false))
 
 pub returns : goal.returns
 returns g c =
     let t = g.T.Transport in
     let l = c.args.self.now in
     let n = t.meaning l.below in
-    let e = sym c.if-not-is-pair.ensures in
-    let k = c.in-ok-take-segments.ensures in
+    let e = sym c.if-not-is_pair.ensures in
+    let k = c.in_ok-take_segments.ensures in
     let f = found_some (oldest c.args.tag (decode (pieces t.most) (n.arrived c.args.from c.args.to))) (sym (ok_same _ _ k.answer) ∙ c.if-not-branch.false) in
     let short = layer_short t.most l.ranks n c.requires.1 c.args.from c.args.to e c.args.tag c.args.buffer.now c.if-buffer-lt-WORDS.false f.0 f.1 in
-    let long : 8 ≤ length c.take-segments.new.block = omega (arith, c.take-segments.auto.block) in
-    let count = held_length c.take-segments.new.block f.0.words long short (k.words f.0 f.1) in
-    let words = held_words c.take-segments.new.block f.0.words long short (k.words f.0 f.1) in
-    let after = t.meaning c.take-segments.new.below in
+    let long : 8 ≤ length c.take_segments.new.block = omega (arith, c.take_segments.auto.block) in
+    let count = held_length c.take_segments.new.block f.0.words long short (k.words f.0 f.1) in
+    let words = held_words c.take_segments.new.block f.0.words long short (k.words f.0 f.1) in
+    let after = t.meaning c.take_segments.new.below in
     record {
       answer = ap value (c.unpack.ensures.count ∙ count) ∙ layer_count t.most l.ranks n c.requires.1 c.args.from c.args.to e c.args.tag c.args.buffer.now c.if-buffer-lt-WORDS.false f.0 f.1;
       words = c.unpack.ensures.words ∙ ap₂ (λ x y. x ++ drop y c.args.buffer.now) words count ∙ layer_words t.most l.ranks n c.requires.1 c.args.from c.args.to e c.args.tag c.args.buffer.now c.if-buffer-lt-WORDS.false f.0 f.1;

@@ -6,10 +6,10 @@ use Rattle.shared_log.specs.Records.{log_meaning, message_of, is_arrived}
 use Rattle.transport.proofs.Stored.{oldest_none}
 use Rattle.shared_log.proofs.LogTransport.take.Goals as goal
 
-pub returns-then-not-is-pair : goal.returns-then-not-is-pair
-returns-then-not-is-pair c =
+pub returns-then-not-is_pair : goal.returns-then-not-is_pair
+returns-then-not-is_pair c =
     let n = log_meaning c.args.self.now in
-    let e = sym c.if-not-is-pair.ensures in
+    let e = sym c.if-not-is_pair.ensures in
     record {
       answer = sym (take-bad n c.args.from c.args.to c.args.tag c.args.buffer.now e);
       words = sym (taken_bad n c.args.from c.args.to c.args.tag c.args.buffer.now e);
@@ -17,11 +17,11 @@ returns-then-not-is-pair c =
       kept = c.requires;
     }
 
-pub returns-then-buffer-lt-MESSAGE-LIMIT : goal.returns-then-buffer-lt-MESSAGE-LIMIT
-returns-then-buffer-lt-MESSAGE-LIMIT c =
+pub returns-then-buffer-lt-MESSAGE_LIMIT : goal.returns-then-buffer-lt-MESSAGE_LIMIT
+returns-then-buffer-lt-MESSAGE_LIMIT c =
     let n = log_meaning c.args.self.now in
-    let e = sym c.if-not-is-pair.ensures in
-    let h = c.if-buffer-lt-MESSAGE-LIMIT.true in
+    let e = sym c.if-not-is_pair.ensures in
+    let h = c.if-buffer-lt-MESSAGE_LIMIT.true in
     record {
       answer = sym (take_short n c.args.from c.args.to c.args.tag c.args.buffer.now e h);
       words = sym (taken_short n c.args.from c.args.to c.args.tag c.args.buffer.now e h);
@@ -32,8 +32,8 @@ returns-then-buffer-lt-MESSAGE-LIMIT c =
 pub returns-in-None : goal.returns-in-None
 returns-in-None c =
     let n = log_meaning c.args.self.now in
-    let e = sym c.if-not-is-pair.ensures in
-    let h = c.if-buffer-lt-MESSAGE-LIMIT.false in
+    let e = sym c.if-not-is_pair.ensures in
+    let h = c.if-buffer-lt-MESSAGE_LIMIT.false in
     let o = oldest_none message_of (is_arrived c.args.from c.args.to) c.args.tag _ c.in-None.ensures in
     record {
       answer = sym (take_none n c.args.from c.args.to c.args.tag c.args.buffer.now e h o);
@@ -47,15 +47,15 @@ read-length-requires c =
     let l = c.args.self.now in
     let f = c.in-Some.ensures in
     let g = log_good_in l c.requires c.args.from c.args.to c.args.tag c.in-Some.at blank f.0 f.1 f.2 in
-    (g.brief, (g.four, c.if-buffer-lt-MESSAGE-LIMIT.false))
+    (g.brief, (g.four, c.if-buffer-lt-MESSAGE_LIMIT.false))
 
 pub returns-in-Some : goal.returns-in-Some
 returns-in-Some c =
     let l = c.args.self.now in
     let n = log_meaning l in
     let f = c.in-Some.ensures in
-    let e = sym c.if-not-is-pair.ensures in
-    let h = c.if-buffer-lt-MESSAGE-LIMIT.false in
+    let e = sym c.if-not-is_pair.ensures in
+    let h = c.if-buffer-lt-MESSAGE_LIMIT.false in
     let o = log_oldest_in l c.requires c.args.from c.args.to c.args.tag c.in-Some.at blank f.0 f.1 f.2 in
     let k = c.remove-self.ensures in
     record {
