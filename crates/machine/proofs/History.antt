@@ -119,7 +119,7 @@ module _ {E : Type 0} where
 
   -- and of all jobs
   pub record History (before : List Entry) (s : Plain E) : Type 0 where
-    pub jobs_begun : All (Begun before s.ghost_name s.meaning s.now.ranks) s.jobs
+    pub jobs_begun : All (Begun before s.name s.meaning s.now.ranks) s.jobs
     pub later : (n : ℕ) → s.started < n → (turns is_sent n before ≡ []) × (turns acts n before ≡ [])
     pub known : (kind : Kind) (root : ℕ) (words : List ℕ) (n : ℕ) → Recorded (start kind root words) (started s.name n) before → n ≤ s.started
     pub few : (kind : Kind) (root : ℕ) (words : List ℕ) (n : ℕ) → Recorded (start kind root words) (started s.name n) before
@@ -145,8 +145,8 @@ module _ {E : Type 0} where
   silent_on : (before : List Entry) (e : Entry) (s : Plain E) → Silent s.name e → History before s → History (before ++ (e ∷ [])) s
   silent_on before e s quiet h = record {
     jobs_begun =
-        All-weaker (Begun before s.ghost_name s.meaning s.now.ranks) (Begun (before ++ (e ∷ [])) s.ghost_name s.meaning s.now.ranks)
-        (λ job b. begun_on before e s.ghost_name s.meaning s.now.ranks job (quiet.no_turn job.number) (quiet.no_start job.number) b) s.jobs h.jobs_begun;
+        All-weaker (Begun before s.name s.meaning s.now.ranks) (Begun (before ++ (e ∷ [])) s.name s.meaning s.now.ranks)
+        (λ job b. begun_on before e s.name s.meaning s.now.ranks job (quiet.no_turn job.number) (quiet.no_start job.number) b) s.jobs h.jobs_begun;
     later = λ n above.
         (turns_on is_sent n before e (quiet.no_turn n).0 ∙ (h.later n above).0, turns_on acts n before e (quiet.no_turn n).1 ∙ (h.later n above).1);
     known = λ kind root words n r.
@@ -225,11 +225,11 @@ module _ {E : Type 0} where
           let three : w ≡ words = cc in
           (one, two, three)
 
-      pending_on : (jobs : List (Job E)) → All (Begun before s.ghost_name s.meaning s.now.ranks) jobs → All (λ n. n ≤ s.started) (numbers jobs)
-          → All (Begun (before ++ (entry (start kind root words) a ∷ [])) s.ghost_name s.meaning s.now.ranks) jobs
+      pending_on : (jobs : List (Job E)) → All (Begun before s.name s.meaning s.now.ranks) jobs → All (λ n. n ≤ s.started) (numbers jobs)
+          → All (Begun (before ++ (entry (start kind root words) a ∷ [])) s.name s.meaning s.now.ranks) jobs
       pending_on [] hs below = tt
       pending_on (job ∷ jobs) hs below = (
-        begun_on before (entry (start kind root words) a) s.ghost_name s.meaning s.now.ranks job (cond_nil (is_sent a), cond_nil (acts a))
+        begun_on before (entry (start kind root words) a) s.name s.meaning s.now.ranks job (cond_nil (is_sent a), cond_nil (acts a))
             (λ k r w call answer.
             let same : started s.name (s.started + 1) ≡ started s.name job.number = sym given ∙ answer in
             let number : s.started + 1 ≡ job.number = cc in
@@ -294,8 +294,8 @@ module _ {E : Type 0} where
   acted_on : (before : List Entry) (s : Plain E) → Good s → History before s → (e : Entry) (n r : ℕ) (move : Move E) (job : Job E) → numbered n s.jobs ≡ some job
       → ((k : ℕ) → (k ≡ n → ⊥) → NoTurn k e)
       → ((k : ℕ) → NoStart s.name k e)
-      → (Begun before s.ghost_name s.meaning s.now.ranks job → Begun (before ++ (e ∷ [])) s.ghost_name s.meaning s.now.ranks (moved_job n r move job))
-      → (Begun before s.ghost_name s.meaning s.now.ranks job → length (turns acts job.number (before ++ (e ∷ []))) ≤ 2 * messages job.kind s.now.ranks job.root)
+      → (Begun before s.name s.meaning s.now.ranks job → Begun (before ++ (e ∷ [])) s.name s.meaning s.now.ranks (moved_job n r move job))
+      → (Begun before s.name s.meaning s.now.ranks job → length (turns acts job.number (before ++ (e ∷ []))) ≤ 2 * messages job.kind s.now.ranks job.root)
       → ((moved r move s.now).ranks ≡ s.now.ranks)
       → History (before ++ (e ∷ [])) (after_move s n r move)
   acted_on before s good h e n r move job at elsewhere other moves at_most same_ranks =
@@ -340,7 +340,7 @@ module _ {E : Type 0} where
       let on = silent_on before this s
       (record { no_turn = λ k. (turn_fails is_sent given name n r k (neither given fails), turn_fails acts given name n r k fails); no_start = turn_no_start name n r given s.name }) h in
       record {
-        jobs_begun = subst (All (Begun (before ++ (this ∷ [])) s.ghost_name s.meaning s.now.ranks)) (sym (jobs_stay n r a s.jobs)) on.jobs_begun;
+        jobs_begun = subst (All (Begun (before ++ (this ∷ [])) s.name s.meaning s.now.ranks)) (sym (jobs_stay n r a s.jobs)) on.jobs_begun;
         later = on.later;
         known = on.known;
         few = on.few;
@@ -364,11 +364,11 @@ module _ {E : Type 0} where
       let was : List ℕ = turns is_sent job.number before in
       let pushed : turns is_sent job.number (before ++ (this ∷ [])) ≡ was ++ (r ∷ []) = turns_push is_sent job.number before this ∙ ap (λ l. was ++ l) counted in
       subst (Begun (before ++ (this ∷ [])) s.name m p) (sym changed_here)
-      (advanced_on m p s.now job sound r within (Send to label) here before this s.ghost_name (job.sent + 1) x refl
+      (advanced_on m p s.now job sound r within (Send to label) here before this s.name (job.sent + 1) x refl
       (turn_no_start name n r given s.name job.number) acted
       (omega (arith, b.counted, ap length pushed, length_push was r))
       (λ c t. told_send m p s.now job sound r within c t to label here (job.sent + 1)) b))
-      (bounded m p s.now job sound r within (Send to label) here before this s.ghost_name acted)
+      (bounded m p s.now job sound r within (Send to label) here before this s.name acted)
       refl
   turn_on before s good h name n r (taking job at within from label merge words mail here words_are mail_is) given same =
       let this : Entry = entry (turn name n r) given in
@@ -395,11 +395,11 @@ module _ {E : Type 0} where
       (turn_no_start name n r given s.name)
       (λ b.
       subst (Begun (before ++ (this ∷ [])) s.name m p) (sym changed_here)
-      (advanced_on m p s.now job sound r within (Take from label merge) here before this s.ghost_name job.sent x refl
+      (advanced_on m p s.now job sound r within (Take from label merge) here before this s.name job.sent x refl
       (turn_no_start name n r given s.name job.number) acted
       (b.counted ∙ ap length (sym (turns_on is_sent job.number before this uncounted)))
       (λ c t. told_take m p s.now job sound r within c t from label merge here job.sent was_sent) b))
-      (bounded m p s.now job sound r within (Take from label merge) here before this s.ghost_name acted)
+      (bounded m p s.now job sound r within (Take from label merge) here before this s.name acted)
       refl)
 
   -- carry, look, end and abandon --
@@ -433,7 +433,7 @@ module _ {E : Type 0} where
   left_out l s n net same on =
       rw same
       (record {
-        jobs_begun = all_kept_by (λ k. not (eqb k.number n)) (Begun l s.ghost_name s.meaning s.now.ranks) s.jobs on.jobs_begun;
+        jobs_begun = all_kept_by (λ k. not (eqb k.number n)) (Begun l s.name s.meaning s.now.ranks) s.jobs on.jobs_begun;
         later = on.later;
         known = on.known;
         few = on.few;

@@ -61,7 +61,7 @@ module _ {E : Type 0} (s : Plain E) (good : Good s) (number : ℕ) (job : Job E)
   left r = drop (rank_of s.meaning job r).done (actions p job r)
 
   sound : JobSound s.meaning p (waiting s.now) job
-  sound = (found number s.jobs job (shown_found s s.ghost_name number job at)).all_have (JobSound s.meaning p (waiting s.now)) good.sound.jobs_sound
+  sound = (found number s.jobs job (shown_found s s.name number job at)).all_have (JobSound s.meaning p (waiting s.now)) good.sound.jobs_sound
 
   sends_on : (r : ℕ) → r < p → SendsNext (left r) → Next
   sends_on r below next =

@@ -29,11 +29,11 @@ module _ {E : Type 0} where
   -- an end that is not refused
   end_right : (before : List Entry) (s : Plain E) → Good s → History before s → (token n : ℕ) (lent words : List ℕ) (r k : ℕ) (o : Option (Job E)) → shown s token n ≡ o
       → (end_shown s o lent).0 ≡ ended words r k
-      → RightEnd s.ghost_name s.meaning s.now.ranks before n lent words r k
+      → RightEnd s.name s.meaning s.now.ranks before n lent words r k
   end_right before s good h token n lent words r k none e given = let z : ◌≡◌ {A = ℕ} 0 1 = cc in absurd (omega arith)
   end_right before s good h token n lent words r k (some job) e given = go (end_refusal s job lent) refl given
     where
-      go : (o : Option Refusal) → end_refusal s job lent ≡ o → (after_end s job lent o).0 ≡ ended words r k → RightEnd s.ghost_name s.meaning s.now.ranks before n lent words r k
+      go : (o : Option Refusal) → end_refusal s job lent ≡ o → (after_end s job lent o).0 ≡ ended words r k → RightEnd s.name s.meaning s.now.ranks before n lent words r k
       go (some f) q a = let z : ◌≡◌ {A = ℕ} 0 1 = cc in absurd (omega arith)
       go none q a =
           let m = s.meaning in
@@ -80,7 +80,7 @@ module _ {E : Type 0} where
     when_finished = λ given. go (shown s s.name n) refl given;
   }
     where
-      go : (o : Option (Job E)) → shown s s.ghost_name n ≡ o → (after_look s o).0 ≡ looked s.now.ranks → length (turns acts n before) ≡ 2 * messages kind s.now.ranks (root_for kind root)
+      go : (o : Option (Job E)) → shown s s.name n ≡ o → (after_look s o).0 ≡ looked s.now.ranks → length (turns acts n before) ≡ 2 * messages kind s.now.ranks (root_for kind root)
       go none e a = let z : ◌≡◌ {A = ℕ} 0 1 = cc in absurd (omega arith)
       go (some job) e a =
           let m = s.meaning in
@@ -144,7 +144,7 @@ module _ {E : Type 0} where
           let t : Plain E = after (made name m net) (calls before) in
           let past = past_of before (e ∷ behind) f in
           let answered : (step t (end token n lent)).0 ≡ ended words r k = ap (λ c. (step t c).0) (sym call) ∙ sym (follows_then before (e ∷ behind) (made name m net) f).0 ∙ given in
-          let right : RightEnd t.ghost_name t.meaning t.now.ranks before n lent words r k = end_right before t past.good past.history token n lent words r k (shown t token n) refl answered in
+          let right : RightEnd t.name t.meaning t.now.ranks before n lent words r k = end_right before t past.good past.history token n lent words r k (shown t token n) refl answered in
           subst (λ x. RightEnd x m net.ranks before n lent words r k) past.same.name_same
           (subst₂ (λ x y. RightEnd t.name x y before n lent words r k) past.same.meaning_same past.same_ranks right);
       trades = λ before behind e f q r alike t u differ given same.
