@@ -147,14 +147,14 @@ module _ {E : Type 0} where
         same_depth = h.same_depth;
         same_room = h.same_room;
         same_limit = h.same_limit;
-        started_few = omega (arith, c.number-left);
+        started_few = omega (arith, c.number_left);
         fits = λ _. c.fitting;
         distinct = rw pushed (distinct_push (s.started + 1) (numbers s.jobs) h.distinct absent);
         started_all = rw pushed (All-append (λ i. i ≤ s.started + 1) (numbers s.jobs) ((s.started + 1) ∷ [])
             (All-weaker (λ i. i ≤ s.started) (λ i. i ≤ s.started + 1) (λ i g. omega arith) (numbers s.jobs) h.started_all) (omega arith, tt));
-        pending_few = omega (arith, length-append s.jobs (job ∷ []), c.three-pending);
-        pending_depth = omega (arith, length-append s.jobs (job ∷ []), c.deep-enough);
-        pending_room = omega (arith, messages_push p s.jobs job, c.room-enough);
+        pending_few = omega (arith, length-append s.jobs (job ∷ []), c.three_pending);
+        pending_depth = omega (arith, length-append s.jobs (job ∷ []), c.deep_enough);
+        pending_room = omega (arith, messages_push p s.jobs job, c.room_enough);
         jobs_sound = All-append (JobSound s.meaning p (waiting s.now)) s.jobs (job ∷ []) h.jobs_sound (
           job_sound s.meaning lawful p (s.started + 1) (waiting s.now) kind root inputs c.root_below read.1 read.0
               (planned kind p root inputs few c.root_below read.1 read.0)

@@ -197,7 +197,7 @@ module _ {E : Type 0} where
                 begun = recorded_last (start kind root words) (started s.name number) before this refl given;
                 only = λ k r w rec.
                     ⊎_elim (λ l. absurd (omega (arith, h.known k r w number l))) (λ new. same_start k r w new.0) (recorded_split _ _ before this rec);
-                read = read_right 0 (blocks_read s words) c.blocks-right;
+                read = read_right 0 (blocks_read s words) c.blocks_right;
                 counted = sym (ap length (turns_on is_sent number before this (quiet number).0 ∙ none_before.0));
                 paced = sum_zeros _ p (λ r _. ap (λ x. x.done) (at_start r)) ∙ sym (ap length none_yet);
                 told = subst (λ l. Told m p job (replay (actions p job) l at_first)) (sym none_yet) (record {

@@ -11,8 +11,8 @@ pub loop-from-preserved : goal.loop-from-preserved
 loop-from-preserved g c =
     let from = c.loop-from.from in
     let ranks = c.ranks-ranks.result in (
-      c.clear-row.ensures.kept,
-      c.clear-row.ensures.after
+      c.clear_row.ensures.kept,
+      c.clear_row.ensures.after
           ∙ ap (cleared c.args.number (row_below from ranks)) c.loop-from.invariant.1
           ∙ cleared_join c.args.number (g.T.Transport.meaning c.args.transport.now) (rows_below from ranks) (row_below from ranks) (rows_below (from + 1) ranks) (rows_next from ranks) (rows_apart from ranks),
     )

@@ -4,27 +4,27 @@ use Rattle.engine_parts.specs.Clearing.{purged, of_job}
 use Rattle.engine_parts.proofs.Clears.{cleared_empty, cleared_pair, none_waits, some_wait}
 use Rattle.engine_parts.proofs.clearing.clear_pair.Goals as goal
 
-pub returns-then-unwrap-or-eq0 : goal.returns-then-unwrap-or-eq0
-returns-then-unwrap-or-eq0 g c =
+pub returns-then-unwrap_or-eq0 : goal.returns-then-unwrap_or-eq0
+returns-then-unwrap_or-eq0 g c =
     let n = g.T.Transport.meaning c.args.transport.now in
     let shape = g.T.Transport.shaped c.args.transport.now c.requires.sound in
-    let none = none_waits _ n shape c.args.from c.args.to _ c.waiting-between.ensures (sym c.unwrap-or.ensures ∙ c.if-unwrap-or-eq0.true) in
+    let none = none_waits _ n shape c.args.from c.args.to _ c.waiting_between.ensures (sym c.unwrap_or.ensures ∙ c.if-unwrap_or-eq0.true) in
     record { after = sym (cleared_empty c.args.number n c.args.from c.args.to none.0 none.1); kept = c.requires.sound }
 
-pub carry-all-requires : goal.carry-all-requires
-carry-all-requires g c =
+pub carry_all-requires : goal.carry_all-requires
+carry_all-requires g c =
     let n = g.T.Transport.meaning c.args.transport.now in
     let shape = g.T.Transport.shaped c.args.transport.now c.requires.sound in
-    record { sound = c.requires.sound; pair = some_wait _ n shape c.args.from c.args.to _ c.waiting-between.ensures (λ z. c.if-unwrap-or-eq0.false (c.unwrap-or.ensures ∙ z)) }
+    record { sound = c.requires.sound; pair = some_wait _ n shape c.args.from c.args.to _ c.waiting_between.ensures (λ z. c.if-unwrap_or-eq0.false (c.unwrap_or.ensures ∙ z)) }
 
-pub take-job-requires : goal.take-job-requires
-take-job-requires g c =
+pub take_job-requires : goal.take_job-requires
+take_job-requires g c =
     let n = g.T.Transport.meaning c.args.transport.now in
     let shape = g.T.Transport.shaped c.args.transport.now c.requires.sound in
-    let pair = some_wait _ n shape c.args.from c.args.to _ c.waiting-between.ensures (λ z. c.if-unwrap-or-eq0.false (c.unwrap-or.ensures ∙ z)) in
+    let pair = some_wait _ n shape c.args.from c.args.to _ c.waiting_between.ensures (λ z. c.if-unwrap_or-eq0.false (c.unwrap_or.ensures ∙ z)) in
     record {
-      sound = c.carry-all.ensures.kept;
-      pair = subst (λ m. pair_ok m.ranks c.args.from c.args.to ≡ true) (sym c.carry-all.ensures.after) pair;
+      sound = c.carry_all.ensures.kept;
+      pair = subst (λ m. pair_ok m.ranks c.args.from c.args.to ≡ true) (sym c.carry_all.ensures.after) pair;
       small = c.requires.small;
     }
 
@@ -32,8 +32,8 @@ pub returns : goal.returns
 returns g c =
     record {
       after =
-          c.take-job.ensures.after
-          ∙ ap (purged (of_job c.args.number) c.args.from c.args.to) c.carry-all.ensures.after
+          c.take_job.ensures.after
+          ∙ ap (purged (of_job c.args.number) c.args.from c.args.to) c.carry_all.ensures.after
           ∙ cleared_pair c.args.number (g.T.Transport.meaning c.args.transport.now) c.args.from c.args.to;
-      kept = c.take-job.ensures.kept;
+      kept = c.take_job.ensures.kept;
     }

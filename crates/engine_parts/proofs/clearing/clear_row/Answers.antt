@@ -11,8 +11,8 @@ pub loop-to-preserved : goal.loop-to-preserved
 loop-to-preserved g c =
     let from = c.args.from in
     let to = c.loop-to.to in (
-      c.clear-pair.ensures.kept,
-      c.clear-pair.ensures.after
+      c.clear_pair.ensures.kept,
+      c.clear_pair.ensures.after
           ∙ ap (cleared c.args.number (one_pair from to)) c.loop-to.invariant.1
           ∙ cleared_join c.args.number (g.T.Transport.meaning c.args.transport.now) (row_below from to) (one_pair from to) (row_below from (to + 1)) (row_next from to) (row_apart from to),
     )

@@ -7,13 +7,13 @@ pub loop-smaller : goal.loop-smaller
 loop-smaller g c =
     let n = g.T.Transport.meaning c.loop.transport in
     let fewer = taken_fewer c.args.tag n c.args.from c.args.to c.loop-test.ensures.answer in
-    let same = ap (λ m. length (m.arrived c.args.from c.args.to)) c.take-one.ensures.after in
+    let same = ap (λ m. length (m.arrived c.args.from c.args.to)) c.take_one.ensures.after in
     subst (λ k. k < length (n.arrived c.args.from c.args.to)) (sym same) fewer
 
 pub loop-preserved : goal.loop-preserved
 loop-preserved g c = (
-  c.take-one.ensures.kept,
-  ap (purged (tagged c.args.tag) c.args.from c.args.to) c.take-one.ensures.after
+  c.take_one.ensures.kept,
+  ap (purged (tagged c.args.tag) c.args.from c.args.to) c.take_one.ensures.after
       ∙ purged_taken c.args.tag (g.T.Transport.meaning c.loop.transport) c.args.from c.args.to
       ∙ c.loop.invariant.1,
 )
@@ -24,9 +24,9 @@ returns g c =
     let none = none_some _ c.loop-test.ensures.answer in
     record {
       after =
-          c.take-one.ensures.after
+          c.take_one.ensures.after
           ∙ taken_done c.args.tag n c.args.from c.args.to none
           ∙ sym (purged_done c.args.tag n c.args.from c.args.to none)
           ∙ c.loop.invariant.1;
-      kept = c.take-one.ensures.kept;
+      kept = c.take_one.ensures.kept;
     }

@@ -11,8 +11,8 @@ pub loop-label-preserved : goal.loop-label-preserved
 loop-label-preserved g c =
     let number = c.args.number in
     let label = c.loop-label.label in (
-      c.take-all.ensures.kept,
-      c.take-all.ensures.after
+      c.take_all.ensures.kept,
+      c.take_all.ensures.after
           ∙ ap (purged (tagged (16 * number + label)) c.args.from c.args.to) c.loop-label.invariant.1
           ∙ purged_purged (labelled number label) (tagged (16 * number + label)) (labelled number (label + 1)) (label_next number label (omega (arith, c.loop-label-test.true)))
           c.args.from c.args.to (g.T.Transport.meaning c.args.transport.now),
