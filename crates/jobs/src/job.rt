@@ -1,6 +1,9 @@
 // One pending job, and what its ranks have come to.
+ghost use Rattle.std.specs.Prelude.{◌≡◌, ⊤};
+
 use ranks::MAX_RANKS;
 use schedule::Schedule;
+use std::alloc::AllocError;
 
 // What a rank of a job has come to, but for its value.
 #[derive(Clone, Copy)]
@@ -25,7 +28,7 @@ pub struct RankState<E> {
 }
 
 // A pending job; of each array only the first places are used, as many as there are ranks.
-#[derive(Clone, Copy)]
+#[derive(Copy)]
 pub struct Job<E> {
     pub(crate) number: u32,
     pub(crate) schedule: Schedule,
@@ -37,4 +40,15 @@ pub struct Job<E> {
     pub(crate) progress: [Progress<E>; MAX_RANKS],
     // turns answered sent
     pub(crate) sent: usize,
+}
+
+// By hand, since the derived one gets no proof: it would owe that an array of a type parameter is not too large.
+impl<E: Copy> Clone for Job<E> {
+    ghost is_clone = { λ x y. y ≡ x };
+
+    ghost is_infallible = { λ _. ⊤ };
+
+    fn clone(&self) -> Result<Job<E>, AllocError> {
+        Ok(*self)
+    }
 }

@@ -22,5 +22,5 @@ returns g c =
     let r = c.args.rank in
     record {
       here = λ d. c.action.ensures.here c.requires ∙ ap (λ s. slice_get (actions_of j.schedule.collective j.schedule.ranks r) s.done) (c.state-done.ensures d);
-      few = λ e d. omega (arith, ap (λ s. s.done) (c.state-done.ensures d), c.length.type-inv, c.if-done-length.false);
+      few = λ e d. omega (arith, ap (λ s. s.done) (c.state-done.ensures d), c.length.type_inv, c.if-done-length.false);
     }

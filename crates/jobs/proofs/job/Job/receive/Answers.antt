@@ -4,7 +4,7 @@ use Rattle.programme.specs.declared.Merge.TheVariants.{Replace, Keep, Before, Af
 use Rattle.jobs.specs.declared.job.Job.{Job}
 use Rattle.jobs.specs.Tables.{with_state, with_received, kept_after}
 use Rattle.jobs.proofs.job.Job.receive.Goals as goal
-use Rattle.jobs.proofs.job.Job.receive.Goals.{in-Keep, in-default}
+use Rattle.jobs.proofs.job.Job.receive.Goals.{in-Keep, in_default}
 
 module _ {E : Type 0} (at : ℕ) (v : E) (j : Job E) where
   unkept : (m : Merge) → (m ≡ Keep → ⊥) → kept_after m at v j ≡ j
@@ -31,10 +31,10 @@ returns g c =
                 ∙ ap (λ m. with_received r st m c.args.at c.args.value j) (sym w.in-Keep.is);
             front = λ _. w.keep.ensures.front;
           }
-      | in-default w ↦ record {
+      | in_default w ↦ record {
         changed =
             c.put.ensures ∙ ap (λ i. with_state r st i.sent i) w.self-is
-            ∙ ap (with_state r st j.sent) (sym (unkept c.args.at c.args.value j c.args.merge w.in-default.not-Keep));
-        front = λ e. absurd (w.in-default.not-Keep e);
+            ∙ ap (with_state r st j.sent) (sym (unkept c.args.at c.args.value j c.args.merge w.in_default.not-Keep));
+        front = λ e. absurd (w.in_default.not-Keep e);
       }
     ]

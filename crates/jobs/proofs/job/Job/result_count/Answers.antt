@@ -12,7 +12,7 @@ all_ranks Scan p h = refl
 all_ranks Exscan p h = refl
 all_ranks Allreduce p h = refl
 
-pub returns-in-default : goal.returns-in-default
-returns-in-default g c =
+pub returns-in_default : goal.returns-in_default
+returns-in_default g c =
     let j = c.args.self.now in
-    c.ranks.ensures ∙ all_ranks j.schedule.collective j.schedule.ranks (λ root e. c.in-default.not-Reduce root (c.collective.ensures ∙ e))
+    c.ranks.ensures ∙ all_ranks j.schedule.collective j.schedule.ranks (λ root e. c.in_default.not-Reduce root (c.collective.ensures ∙ e))

@@ -3,8 +3,8 @@ use Rattle.std.proofs.lemmas.List.{get_or_default}
 use Rattle.jobs.proofs.Sizes.{pending_size}
 use Rattle.jobs.proofs.table.Table.job.Goals as goal
 
-pub offset-bounds-self-i : goal.offset-bounds-self-i
-offset-bounds-self-i g c = let t = c.args.self.now in omega (arith, c.requires, pending_size t, t.few)
+pub offset_bounds-self-i : goal.offset_bounds-self-i
+offset_bounds-self-i g c = let t = c.args.self.now in omega (arith, c.requires, pending_size t, t.few)
 
 pub listed : goal.listed
 listed g c = let t = c.args.self.now in omega (arith, c.requires, pending_size t, t.sized, t.few)

@@ -17,8 +17,8 @@ module _ {E : Type 0} (t : Table E) (k : ℕ) (d : Job E) (below : k < t.pending
 pub loop-k-init : goal.loop-k-init
 loop-k-init g c = omega arith
 
-pub overflow-add-total : goal.overflow-add-total
-overflow-add-total g c =
+pub overflow_add-total : goal.overflow_add-total
+overflow_add-total g c =
     omega (arith, c.requires, c.loop-k.invariant, c.messages-total.ensures, one c.args.self.now c.loop-k.k c.index-self-k.result c.loop-k-test.true)
 
 pub loop-k-preserved : goal.loop-k-preserved

@@ -9,8 +9,8 @@ listed g c = let t = c.args.self.now in omega (arith, c.requires, pending_size t
 pub bounds-self-at : goal.bounds-self-at
 bounds-self-at g c = let t = c.args.self.now in omega (arith, c.requires, pending_size t)
 
-pub invariant-of-self : goal.invariant-of-self
-invariant-of-self g c = let t = c.args.self.now in (length-set t.jobs t.pending c.args.job ∙ t.sized, (omega (arith, c.requires, pending_size t), tt))
+pub invariant_of-self : goal.invariant_of-self
+invariant_of-self g c = let t = c.args.self.now in record { sized = length-set t.jobs t.pending c.args.job ∙ t.sized; few = omega (arith, c.requires, pending_size t) }
 
 pub returns : goal.returns
 returns g c =

@@ -3,8 +3,8 @@ use Rattle.jobs.proofs.Sizes.{pending_size}
 use Rattle.jobs.proofs.Shifts.{shifted, shift_read, shift_more, shift_none, shift_all}
 use Rattle.jobs.proofs.table.Table.remove.Goals as goal
 
-pub overflow-sub-last : goal.overflow-sub-last
-overflow-sub-last g c = let t = c.args.self.now in omega (arith, c.requires, pending_size t)
+pub overflow_sub-last : goal.overflow_sub-last
+overflow_sub-last g c = let t = c.args.self.now in omega (arith, c.requires, pending_size t)
 
 pub loop-k-init : goal.loop-k-init
 loop-k-init g c =

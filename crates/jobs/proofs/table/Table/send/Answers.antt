@@ -5,8 +5,8 @@ use Rattle.jobs.proofs.Lists.{set-update, take-update}
 use Rattle.jobs.proofs.Sizes.{pending_size}
 use Rattle.jobs.proofs.table.Table.send.Goals as goal
 
-pub offset-bounds-self-i : goal.offset-bounds-self-i
-offset-bounds-self-i g c = let t = c.args.self.now in omega (arith, c.requires.0, pending_size t, t.few)
+pub offset_bounds-self-i : goal.offset_bounds-self-i
+offset_bounds-self-i g c = let t = c.args.self.now in omega (arith, c.requires.0, pending_size t, t.few)
 
 pub listed : goal.listed
 listed g c = let t = c.args.self.now in omega (arith, c.requires.0, pending_size t, t.sized, t.few)
