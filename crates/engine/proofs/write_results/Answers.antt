@@ -19,16 +19,16 @@ loop-index-init g c = λ d.
 pub result-requires : goal.result-requires
 result-requires g c =
     let j = c.args.job.now in
-    (search rules, omega (arith, c.loop-index-test.true, c.result-count-index-end.ensures, count_few j.schedule.collective j.schedule.ranks j.schedule.allowed))
+    (search rules, omega (arith, c.loop-index-test.true, c.result_count-index-end.ensures, count_few j.schedule.collective j.schedule.ranks j.schedule.allowed))
 
-pub write-block-requires : goal.write-block-requires
-write-block-requires g c =
+pub write_block-requires : goal.write_block-requires
+write_block-requires g c =
     let m = g.O.Operation.meaning c.args.operation.now in
     let j = c.args.job.now in
     let x = c.result.result in
     let i = c.loop-index.index in
     let n = result_count j.schedule.collective j.schedule.ranks in
-    let below : i < n = omega (arith, c.loop-index-test.true, c.result-count-index-end.ensures) in
+    let below : i < n = omega (arith, c.loop-index-test.true, c.result_count-index-end.ensures) in
     let d : RankState g.row.O-Element.Denot = record { done = 0; value = x; prefix = x; arrival = 0; departure = 0 } in
     let more : i + 1 ≤ n = omega arith in
     record {
@@ -46,10 +46,10 @@ loop-index-preserved g c = λ d.
     let i = c.loop-index.index in
     let ws = c.args.words.now in
     let n = result_count j.schedule.collective j.schedule.ranks in
-    let below : i < n = omega (arith, c.loop-index-test.true, c.result-count-index-end.ensures) in
+    let below : i < n = omega (arith, c.loop-index-test.true, c.result_count-index-end.ensures) in
     let f = result_at j d in
     let all = all_listed (Proper m) f i (λ k lt. listed_at (Proper m) f n (c.requires.proper d) k (omega arith)) in
-    c.write-block.ensures
+    c.write_block.ensures
     ∙ ap (block_over m x i) (c.loop-index.invariant d)
     ∙ packed_push m (g.met.O.Operation.packing o c.requires.narrow) (listed f i) all x i (length-listed f i) ws
     ∙ ap (λ y. packed m (listed f i ++ (y ∷ [])) ++ drop ((i + 1) * m.width) ws) (c.result.ensures d)
@@ -64,7 +64,7 @@ returns g c = λ d.
     let ws = c.args.words.now in
     let n = result_count j.schedule.collective j.schedule.ranks in
     let f = result_at j d in
-    let last : i ≡ n = omega (arith, c.loop-index-test.false, c.loop-index.auto.index-end, c.result-count-index-end.ensures) in
+    let last : i ≡ n = omega (arith, c.loop-index-test.false, c.loop-index.auto.index-end, c.result_count-index-end.ensures) in
     c.loop-index.invariant d
     ∙ ap (λ k. packed m (listed f k) ++ drop (k * m.width) ws) last
     ∙ packed_all m (g.met.O.Operation.packing o c.requires.narrow) (listed f n) (c.requires.proper d) n (length-listed f n) ws

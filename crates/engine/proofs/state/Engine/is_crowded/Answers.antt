@@ -13,7 +13,7 @@ returns-then-len-depth g c = λ o h.
 pub messages-pending-requires : goal.messages-pending-requires
 messages-pending-requires g c =
     let fit = messages_fit g.O.Operation.meaning g.T.Transport.meaning g.T.Transport.sound c.args.self.now c.requires.sound.origin c.requires.sound.stands c.args.schedule.collective [] in
-    (search rules, omega (arith, fit, c.room-room.ensures, c.room-room.type-inv))
+    (search rules, omega (arith, fit, c.room-room.ensures, c.room-room.type_inv))
 
 pub overfills-requires : goal.overfills-requires
 overfills-requires g c =

@@ -21,7 +21,7 @@ returns g c =
     let none = c.new-jobs.ensures in
     let fresh = ap (λ js. with_jobs c.args.name m net net 0 js) none in
     let good = subst Good (sym fresh) (made_good c.args.name m net lawful well) in
-    let told = c.is-empty-clean.ensures in
+    let told = c.is_empty-clean.ensures in
     let ranks = subst (AmongRanks net.ranks) (sym none) tt in
     record {
       sound = record { origin = net; stands = new_stands g.O.Operation.meaning t.meaning t.sound net _ c.requires good told ranks };

@@ -41,8 +41,8 @@ state-state-requires g c =
     let a = Send c.args.to c.args.label in
     (search rules, rank_low op net ok e t k r a due o h)
 
-pub next-stamp-stamp-requires : goal.next-stamp-stamp-requires
-next-stamp-stamp-requires g c =
+pub next_stamp-stamp-requires : goal.next_stamp-stamp-requires
+next_stamp-stamp-requires g c =
     let op = g.O.Operation.meaning in
     let net = g.T.Transport.meaning in
     let ok = g.T.Transport.sound in
@@ -61,8 +61,8 @@ next-stamp-stamp-requires g c =
     let small = clocks op net ok e t k r a due o h j j_is st st_is in
     (small.1, small.0)
 
-pub job-tag-tag-requires : goal.job-tag-tag-requires
-job-tag-tag-requires g c =
+pub job_tag-tag-requires : goal.job_tag-tag-requires
+job_tag-tag-requires g c =
     let op = g.O.Operation.meaning in
     let net = g.T.Transport.meaning in
     let ok = g.T.Transport.sound in
@@ -80,8 +80,8 @@ job-tag-tag-requires g c =
     let st_is = c.state-state.ensures st in
     (number_low op net ok e t k r a due o h j j_is st st_is, label_low op net ok e t k r c.args.to c.args.label due o h j j_is st st_is)
 
-pub send-value-requires : goal.send-value-requires
-send-value-requires g c =
+pub send_value-requires : goal.send_value-requires
+send_value-requires g c =
     let op = g.O.Operation.meaning in
     let net = g.T.Transport.meaning in
     let ok = g.T.Transport.sound in
@@ -115,14 +115,14 @@ unreachable-requires g c =
     let j_is = c.job.ensures j in
     let st = c.state-state.result in
     let st_is = c.state-state.ensures st in
-    let stamp = sym c.next-stamp-stamp.ensures in
+    let stamp = sym c.next_stamp-stamp.ensures in
     let words = ap (λ i. send_reply (net e.transport) r c.args.to (i ∷ (op e.operation).pack st.value)) stamp in
     let refuses = c.in-Err.ensures.answer ∙ sym words ∙ goes op net ok e t k r c.args.to c.args.label due o h j j_is st st_is in
     let z : ◌≡◌ {A = ℕ} 0 1 = cc refuses in
     omega arith
 
-pub overflow-add-state : goal.overflow-add-state
-overflow-add-state g c =
+pub overflow_add-state : goal.overflow_add-state
+overflow_add-state g c =
     let op = g.O.Operation.meaning in
     let net = g.T.Transport.meaning in
     let ok = g.T.Transport.sound in
@@ -175,9 +175,9 @@ returns g c =
     let j_is = c.job.ensures j in
     let st = c.state-state.result in
     let st_is = c.state-state.ensures st in
-    let stamp = c.next-stamp-stamp.ensures in
-    let network = c.send-value.ensures.after ∙ ap₂ (λ n i. after_send (net e.transport) r c.args.to (message n (i ∷ (op e.operation).pack st.value))) c.job-tag-tag.ensures stamp in
+    let stamp = c.next_stamp-stamp.ensures in
+    let network = c.send_value.ensures.after ∙ ap₂ (λ n i. after_send (net e.transport) r c.args.to (message n (i ∷ (op e.operation).pack st.value))) c.job_tag-tag.ensures stamp in
     let jobs = c.send.ensures ∙ ap (λ i. update k (with_sent r (record { done = st.done + 1; value = st.value; prefix = st.prefix; arrival = st.arrival; departure = i })) (pending_jobs e.jobs)) stamp in
-    onward op net ok e _ (turn t.name t.number r) sent c.send-value.ensures.kept refl
+    onward op net ok e _ (turn t.name t.number r) sent c.send_value.ensures.kept refl
     (λ p s. subst (AmongRanks p) (sym jobs) (ranks_update p k (with_sent r (departed st)) (λ i. refl) (pending_jobs e.jobs) s))
-    (λ o h. sent_step op net ok e t k r c.args.to c.args.label due o h j j_is st st_is (net c.send-value.new.transport) network (pending_jobs c.send.new.self) jobs)
+    (λ o h. sent_step op net ok e t k r c.args.to c.args.label due o h j j_is st st_is (net c.send_value.new.transport) network (pending_jobs c.send.new.self) jobs)

@@ -12,8 +12,8 @@ use Rattle.engine.proofs.Onward.{onward, onward_among, stays_sound}
 use Rattle.engine.proofs.Starting.{ranks_few, unfit_step, root_step, length-step, block_step, four_step, crowded_step, spent_step, started_step, started_ranks}
 use Rattle.engine.proofs.state.Engine.start.Goals as goal
 
-pub returns-then-not-is-fit : goal.returns-then-not-is-fit
-returns-then-not-is-fit g c =
+pub returns-then-not-is_fit : goal.returns-then-not-is_fit
+returns-then-not-is_fit g c =
     let op = g.O.Operation.meaning in
     let net = g.T.Transport.meaning in
     let ok = g.T.Transport.sound in
@@ -23,11 +23,11 @@ returns-then-not-is-fit g c =
     let call = start (kind_of k) (root_of k) ws in
     record {
       sound = c.requires;
-      step = onward op net ok e e call (refused unfit) c.requires.stands.transport_sound refl (λ q s. s) (λ o h. unfit_step op net ok e o h k ws (c.if-not-is-fit.ensures o h));
+      step = onward op net ok e e call (refused unfit) c.requires.stands.transport_sound refl (λ q s. s) (λ o h. unfit_step op net ok e o h k ws (c.if-not-is_fit.ensures o h));
     }
 
-pub returns-in-default : goal.returns-in-default
-returns-in-default g c =
+pub returns-in_default : goal.returns-in_default
+returns-in_default g c =
     let op = g.O.Operation.meaning in
     let net = g.T.Transport.meaning in
     let ok = g.T.Transport.sound in
@@ -35,14 +35,14 @@ returns-in-default g c =
     let k = c.args.job in
     let ws = c.args.words.now in
     let call = start (kind_of k) (root_of k) ws in
-    let bad : Allowed k c.ranks-ranks.result → ⊥ = MatchOption-at_none _ _ c.in-default.is c.new.ensures.is in
+    let bad : Allowed k c.ranks-ranks.result → ⊥ = MatchOption-at_none _ _ c.in_default.is c.new.ensures.is in
     record {
       sound = c.requires;
-      step = onward op net ok e e call (refused bad_root) c.requires.stands.transport_sound refl (λ q s. s) (λ o h. root_step op net ok e o h k ws (c.if-not-is-fit.ensures o h) (λ l. bad (omega (arith, c.ranks-ranks.ensures), omega (arith, c.ranks-ranks.ensures, ranks_few op net ok e o h k ws))));
+      step = onward op net ok e e call (refused bad_root) c.requires.stands.transport_sound refl (λ q s. s) (λ o h. root_step op net ok e o h k ws (c.if-not-is_fit.ensures o h) (λ l. bad (omega (arith, c.ranks-ranks.ensures), omega (arith, c.ranks-ranks.ensures, ranks_few op net ok e o h k ws))));
     }
 
-pub overflow-mul-ranks : goal.overflow-mul-ranks
-overflow-mul-ranks g c =
+pub overflow_mul-ranks : goal.overflow_mul-ranks
+overflow_mul-ranks g c =
     let op = g.O.Operation.meaning in
     let net = g.T.Transport.meaning in
     let ok = g.T.Transport.sound in
@@ -52,7 +52,7 @@ overflow-mul-ranks g c =
     let call = start (kind_of k) (root_of k) ws in
     let o = c.requires.origin in
     let h = c.requires.stands in
-    let narrow = width_fits (plain op net o e) (sym (c.if-not-is-fit.ensures o h)) in
+    let narrow = width_fits (plain op net o e) (sym (c.if-not-is_fit.ensures o h)) in
     let low : c.ranks-ranks.result ≤ 64 = omega (arith, c.ranks-ranks.ensures, ranks_few op net ok e o h k ws) in
     omega (arith, mul-le-mul_right c.width.result low, narrow, c.width.ensures)
 
@@ -69,11 +69,11 @@ returns-then-words-ranks g c =
     let rooted : root_of k < (net e.transport).ranks = omega (arith, c.in-Some.schedule.allowed.0, ap root_of same, c.in-Some.ensures.is.1, c.ranks-ranks.ensures) in
     record {
       sound = c.requires;
-      step = onward op net ok e e call (refused bad_length) c.requires.stands.transport_sound refl (λ q s. s) (λ o h. length-step op net ok e o h k ws (c.if-not-is-fit.ensures o h) rooted (λ l. c.if-words-ranks.true (l ∙ sym (ap₂ ◌*◌ c.ranks-ranks.ensures c.width.ensures))));
+      step = onward op net ok e e call (refused bad_length) c.requires.stands.transport_sound refl (λ q s. s) (λ o h. length-step op net ok e o h k ws (c.if-not-is_fit.ensures o h) rooted (λ l. c.if-words-ranks.true (l ∙ sym (ap₂ ◌*◌ c.ranks-ranks.ensures c.width.ensures))));
     }
 
-pub read-inputs-requires : goal.read-inputs-requires
-read-inputs-requires g c =
+pub read_inputs-requires : goal.read_inputs-requires
+read_inputs-requires g c =
     let op = g.O.Operation.meaning in
     let net = g.T.Transport.meaning in
     let ok = g.T.Transport.sound in
@@ -85,8 +85,8 @@ read-inputs-requires g c =
     let h = c.requires.stands in
     (search rules, (omega (arith, c.ranks-ranks.ensures, ranks_few op net ok e o h k ws), c.if-words-ranks.false ∙ ap (λ w. c.ranks-ranks.result * w) c.width.ensures))
 
-pub returns-in-err-inputs : goal.returns-in-err-inputs
-returns-in-err-inputs g c =
+pub returns-in_err-inputs : goal.returns-in_err-inputs
+returns-in_err-inputs g c =
     let op = g.O.Operation.meaning in
     let net = g.T.Transport.meaning in
     let ok = g.T.Transport.sound in
@@ -97,17 +97,17 @@ returns-in-err-inputs g c =
     let same = c.in-Some.ensures.is.0 in
     let rooted : root_of k < (net e.transport).ranks = omega (arith, c.in-Some.schedule.allowed.0, ap root_of same, c.in-Some.ensures.is.1, c.ranks-ranks.ensures) in
     let full : length ws ≡ (net e.transport).ranks * (op e.operation).width = c.if-words-ranks.false ∙ ap₂ ◌*◌ c.ranks-ranks.ensures c.width.ensures in
-    let b = c.in-err-inputs.field-0.0 in
-    let q = err_from_is_err_and c.from-residual.result c.from-residual.ensures.1 in
+    let b = c.in_err-inputs.field-0.0 in
+    let q = err_from_is_err_and c.from_residual.result c.from_residual.ensures.1 in
     let answer = ap start_answer q.1 ∙ ap (λ f. refused (start_refusal f)) q.2 in
     record {
       sound = c.requires;
-      step = onward op net ok e e call (start_answer c.from-residual.result) c.requires.stands.transport_sound refl (λ p s. s)
-          (λ o h. ap (λ a. (a, plain op net o e)) answer ∙ block_step op net ok e o h k ws (c.if-not-is-fit.ensures o h) rooted full b (c.in-err-inputs.ensures ∙ ap (λ n. padded (op e.operation) n (inputs_of 0 (blocks_read (op e.operation) n ws))) c.ranks-ranks.ensures));
+      step = onward op net ok e e call (start_answer c.from_residual.result) c.requires.stands.transport_sound refl (λ p s. s)
+          (λ o h. ap (λ a. (a, plain op net o e)) answer ∙ block_step op net ok e o h k ws (c.if-not-is_fit.ensures o h) rooted full b (c.in_err-inputs.ensures ∙ ap (λ n. padded (op e.operation) n (inputs_of 0 (blocks_read (op e.operation) n ws))) c.ranks-ranks.ensures));
     }
 
-pub returns-then-len-ge-MAX-PENDING : goal.returns-then-len-ge-MAX-PENDING
-returns-then-len-ge-MAX-PENDING g c =
+pub returns-then-len-ge-MAX_PENDING : goal.returns-then-len-ge-MAX_PENDING
+returns-then-len-ge-MAX_PENDING g c =
     let op = g.O.Operation.meaning in
     let net = g.T.Transport.meaning in
     let ok = g.T.Transport.sound in
@@ -118,18 +118,18 @@ returns-then-len-ge-MAX-PENDING g c =
     let same = c.in-Some.ensures.is.0 in
     let rooted : root_of k < (net e.transport).ranks = omega (arith, c.in-Some.schedule.allowed.0, ap root_of same, c.in-Some.ensures.is.1, c.ranks-ranks.ensures) in
     let full : length ws ≡ (net e.transport).ranks * (op e.operation).width = c.if-words-ranks.false ∙ ap₂ ◌*◌ c.ranks-ranks.ensures c.width.ensures in
-    let xs = c.in-ok-inputs.inputs in
-    let read : Ok xs ≡ padded (op e.operation) (net e.transport).ranks (inputs_of 0 (blocks_read (op e.operation) (net e.transport).ranks ws)) = c.in-ok-inputs.ensures ∙ ap (λ n. padded (op e.operation) n (inputs_of 0 (blocks_read (op e.operation) n ws))) c.ranks-ranks.ensures in
+    let xs = c.in_ok-inputs.inputs in
+    let read : Ok xs ≡ padded (op e.operation) (net e.transport).ranks (inputs_of 0 (blocks_read (op e.operation) (net e.transport).ranks ws)) = c.in_ok-inputs.ensures ∙ ap (λ n. padded (op e.operation) n (inputs_of 0 (blocks_read (op e.operation) n ws))) c.ranks-ranks.ensures in
     record {
       sound = c.requires;
-      step = onward op net ok e e call (refused four_pending) c.requires.stands.transport_sound refl (λ q s. s) (λ o h. four_step op net ok e o h k ws (c.if-not-is-fit.ensures o h) rooted full xs read (omega (arith, c.len.ensures, c.if-len-ge-MAX-PENDING.true)));
+      step = onward op net ok e e call (refused four_pending) c.requires.stands.transport_sound refl (λ q s. s) (λ o h. four_step op net ok e o h k ws (c.if-not-is_fit.ensures o h) rooted full xs read (omega (arith, c.len.ensures, c.if-len-ge-MAX_PENDING.true)));
     }
 
-pub is-crowded-requires : goal.is-crowded-requires
-is-crowded-requires g c = (search rules, (c.requires, c.in-Some.ensures.is.1 ∙ c.ranks-ranks.ensures))
+pub is_crowded-requires : goal.is_crowded-requires
+is_crowded-requires g c = (search rules, (c.requires, c.in-Some.ensures.is.1 ∙ c.ranks-ranks.ensures))
 
-pub returns-then-is-crowded : goal.returns-then-is-crowded
-returns-then-is-crowded g c =
+pub returns-then-is_crowded : goal.returns-then-is_crowded
+returns-then-is_crowded g c =
     let op = g.O.Operation.meaning in
     let net = g.T.Transport.meaning in
     let ok = g.T.Transport.sound in
@@ -140,16 +140,16 @@ returns-then-is-crowded g c =
     let same = c.in-Some.ensures.is.0 in
     let rooted : root_of k < (net e.transport).ranks = omega (arith, c.in-Some.schedule.allowed.0, ap root_of same, c.in-Some.ensures.is.1, c.ranks-ranks.ensures) in
     let full : length ws ≡ (net e.transport).ranks * (op e.operation).width = c.if-words-ranks.false ∙ ap₂ ◌*◌ c.ranks-ranks.ensures c.width.ensures in
-    let xs = c.in-ok-inputs.inputs in
-    let read : Ok xs ≡ padded (op e.operation) (net e.transport).ranks (inputs_of 0 (blocks_read (op e.operation) (net e.transport).ranks ws)) = c.in-ok-inputs.ensures ∙ ap (λ n. padded (op e.operation) n (inputs_of 0 (blocks_read (op e.operation) n ws))) c.ranks-ranks.ensures in
-    let few : length (pending_jobs e.jobs) < 4 = omega (arith, c.len.ensures, c.if-len-ge-MAX-PENDING.false) in
+    let xs = c.in_ok-inputs.inputs in
+    let read : Ok xs ≡ padded (op e.operation) (net e.transport).ranks (inputs_of 0 (blocks_read (op e.operation) (net e.transport).ranks ws)) = c.in_ok-inputs.ensures ∙ ap (λ n. padded (op e.operation) n (inputs_of 0 (blocks_read (op e.operation) n ws))) c.ranks-ranks.ensures in
+    let few : length (pending_jobs e.jobs) < 4 = omega (arith, c.len.ensures, c.if-len-ge-MAX_PENDING.false) in
     record {
       sound = c.requires;
-      step = onward op net ok e e call (refused crowded) c.requires.stands.transport_sound refl (λ q s. s) (λ o h. crowded_step op net ok e o h k ws (c.if-not-is-fit.ensures o h) rooted full xs read few (c.if-is-crowded.ensures o h ∙ ap (λ d. crowds (plain op net o e) (kind_of d) (root_of d)) same));
+      step = onward op net ok e e call (refused crowded) c.requires.stands.transport_sound refl (λ q s. s) (λ o h. crowded_step op net ok e o h k ws (c.if-not-is_fit.ensures o h) rooted full xs read few (c.if-is_crowded.ensures o h ∙ ap (λ d. crowds (plain op net o e) (kind_of d) (root_of d)) same));
     }
 
-pub returns-then-self-ge-MAX-STARTED : goal.returns-then-self-ge-MAX-STARTED
-returns-then-self-ge-MAX-STARTED g c =
+pub returns-then-self-ge-MAX_STARTED : goal.returns-then-self-ge-MAX_STARTED
+returns-then-self-ge-MAX_STARTED g c =
     let op = g.O.Operation.meaning in
     let net = g.T.Transport.meaning in
     let ok = g.T.Transport.sound in
@@ -160,12 +160,12 @@ returns-then-self-ge-MAX-STARTED g c =
     let same = c.in-Some.ensures.is.0 in
     let rooted : root_of k < (net e.transport).ranks = omega (arith, c.in-Some.schedule.allowed.0, ap root_of same, c.in-Some.ensures.is.1, c.ranks-ranks.ensures) in
     let full : length ws ≡ (net e.transport).ranks * (op e.operation).width = c.if-words-ranks.false ∙ ap₂ ◌*◌ c.ranks-ranks.ensures c.width.ensures in
-    let xs = c.in-ok-inputs.inputs in
-    let read : Ok xs ≡ padded (op e.operation) (net e.transport).ranks (inputs_of 0 (blocks_read (op e.operation) (net e.transport).ranks ws)) = c.in-ok-inputs.ensures ∙ ap (λ n. padded (op e.operation) n (inputs_of 0 (blocks_read (op e.operation) n ws))) c.ranks-ranks.ensures in
-    let few : length (pending_jobs e.jobs) < 4 = omega (arith, c.len.ensures, c.if-len-ge-MAX-PENDING.false) in
+    let xs = c.in_ok-inputs.inputs in
+    let read : Ok xs ≡ padded (op e.operation) (net e.transport).ranks (inputs_of 0 (blocks_read (op e.operation) (net e.transport).ranks ws)) = c.in_ok-inputs.ensures ∙ ap (λ n. padded (op e.operation) n (inputs_of 0 (blocks_read (op e.operation) n ws))) c.ranks-ranks.ensures in
+    let few : length (pending_jobs e.jobs) < 4 = omega (arith, c.len.ensures, c.if-len-ge-MAX_PENDING.false) in
     record {
       sound = c.requires;
-      step = onward op net ok e e call (refused numbers_spent) c.requires.stands.transport_sound refl (λ q s. s) (λ o h. spent_step op net ok e o h k ws (c.if-not-is-fit.ensures o h) rooted full xs read few (c.if-is-crowded.ensures o h ∙ ap (λ d. crowds (plain op net o e) (kind_of d) (root_of d)) same) c.if-self-ge-MAX-STARTED.true);
+      step = onward op net ok e e call (refused numbers_spent) c.requires.stands.transport_sound refl (λ q s. s) (λ o h. spent_step op net ok e o h k ws (c.if-not-is_fit.ensures o h) rooted full xs read few (c.if-is_crowded.ensures o h ∙ ap (λ d. crowds (plain op net o e) (kind_of d) (root_of d)) same) c.if-self-ge-MAX_STARTED.true);
     }
 
 pub returns : goal.returns
@@ -180,16 +180,16 @@ returns g c =
     let same = c.in-Some.ensures.is.0 in
     let rooted : root_of k < (net e.transport).ranks = omega (arith, c.in-Some.schedule.allowed.0, ap root_of same, c.in-Some.ensures.is.1, c.ranks-ranks.ensures) in
     let full : length ws ≡ (net e.transport).ranks * (op e.operation).width = c.if-words-ranks.false ∙ ap₂ ◌*◌ c.ranks-ranks.ensures c.width.ensures in
-    let xs = c.in-ok-inputs.inputs in
-    let read : Ok xs ≡ padded (op e.operation) (net e.transport).ranks (inputs_of 0 (blocks_read (op e.operation) (net e.transport).ranks ws)) = c.in-ok-inputs.ensures ∙ ap (λ n. padded (op e.operation) n (inputs_of 0 (blocks_read (op e.operation) n ws))) c.ranks-ranks.ensures in
-    let few : length (pending_jobs e.jobs) < 4 = omega (arith, c.len.ensures, c.if-len-ge-MAX-PENDING.false) in
-    let left : e.started < 65535 = omega (arith, c.if-self-ge-MAX-STARTED.false) in
+    let xs = c.in_ok-inputs.inputs in
+    let read : Ok xs ≡ padded (op e.operation) (net e.transport).ranks (inputs_of 0 (blocks_read (op e.operation) (net e.transport).ranks ws)) = c.in_ok-inputs.ensures ∙ ap (λ n. padded (op e.operation) n (inputs_of 0 (blocks_read (op e.operation) n ws))) c.ranks-ranks.ensures in
+    let few : length (pending_jobs e.jobs) < 4 = omega (arith, c.len.ensures, c.if-len-ge-MAX_PENDING.false) in
+    let left : e.started < 65535 = omega (arith, c.if-self-ge-MAX_STARTED.false) in
     let sched = c.in-Some.schedule in
     let among = c.in-Some.ensures.is.1 ∙ c.ranks-ranks.ensures in
     let pushed = c.push.ensures ∙ ap (λ j. pending_jobs e.jobs ++ (j ∷ [])) (c.new-2.ensures ∙ ap (first_job (e.started + 1) sched xs) c.unit.ensures) in
     let now = pending_jobs c.push.new.self in
     let answer = started e.name (e.started + 1) in
     let steps = onward_among op net ok e _ call answer c.requires.stands.transport_sound refl
-    (λ o h. started_ranks op net ok e o h k ws (c.if-not-is-fit.ensures o h) rooted full xs read few (c.if-is-crowded.ensures o h ∙ ap (λ d. crowds (plain op net o e) (kind_of d) (root_of d)) same) left sched same among o.ranks h.same_ranks now pushed h.good.sound.same_ranks)
-    (λ o h. started_step op net ok e o h k ws (c.if-not-is-fit.ensures o h) rooted full xs read few (c.if-is-crowded.ensures o h ∙ ap (λ d. crowds (plain op net o e) (kind_of d) (root_of d)) same) left sched same among now pushed) in
+    (λ o h. started_ranks op net ok e o h k ws (c.if-not-is_fit.ensures o h) rooted full xs read few (c.if-is_crowded.ensures o h ∙ ap (λ d. crowds (plain op net o e) (kind_of d) (root_of d)) same) left sched same among o.ranks h.same_ranks now pushed h.good.sound.same_ranks)
+    (λ o h. started_step op net ok e o h k ws (c.if-not-is_fit.ensures o h) rooted full xs read few (c.if-is_crowded.ensures o h ∙ ap (λ d. crowds (plain op net o e) (kind_of d) (root_of d)) same) left sched same among now pushed) in
     record { sound = stays_sound op net ok e _ call answer c.requires steps; step = steps }

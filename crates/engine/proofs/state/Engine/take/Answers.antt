@@ -42,8 +42,8 @@ state-state-requires g c =
     let a = Take c.args.from c.args.label c.args.merge in
     (search rules, rank_low op net ok e t k r a due o h)
 
-pub job-tag-tag-requires : goal.job-tag-tag-requires
-job-tag-tag-requires g c =
+pub job_tag-tag-requires : goal.job_tag-tag-requires
+job_tag-tag-requires g c =
     let op = g.O.Operation.meaning in
     let net = g.T.Transport.meaning in
     let ok = g.T.Transport.sound in
@@ -61,8 +61,8 @@ job-tag-tag-requires g c =
     let st_is = c.state-state.ensures st in
     (number_low op net ok e t k r a due o h j j_is st st_is, take-label op net ok e t k r c.args.from c.args.label c.args.merge due o h j j_is st st_is)
 
-pub take-value-requires : goal.take-value-requires
-take-value-requires g c =
+pub take_value-requires : goal.take_value-requires
+take_value-requires g c =
     let op = g.O.Operation.meaning in
     let net = g.T.Transport.meaning in
     let ok = g.T.Transport.sound in
@@ -78,10 +78,10 @@ take-value-requires g c =
     let j_is = c.job.ensures j in
     let st = c.state-state.result in
     let st_is = c.state-state.ensures st in
-    record { narrow = narrow op net ok e t k r a due o h j j_is st st_is; sound = h.transport_sound; pair = pair op net ok e t k r c.args.from c.args.label c.args.merge due o h j j_is st st_is; legible = subst (λ i. Legible (op e.operation) (oldest i ((net e.transport).arrived c.args.from r))) (sym c.job-tag-tag.ensures) (legible op net ok e t k r c.args.from c.args.label c.args.merge due o h j j_is st st_is) }
+    record { narrow = narrow op net ok e t k r a due o h j j_is st st_is; sound = h.transport_sound; pair = pair op net ok e t k r c.args.from c.args.label c.args.merge due o h j j_is st st_is; legible = subst (λ i. Legible (op e.operation) (oldest i ((net e.transport).arrived c.args.from r))) (sym c.job_tag-tag.ensures) (legible op net ok e t k r c.args.from c.args.label c.args.merge due o h j j_is st st_is) }
 
-pub returns-in-default : goal.returns-in-default
-returns-in-default g c =
+pub returns-in_default : goal.returns-in_default
+returns-in_default g c =
     let op = g.O.Operation.meaning in
     let net = g.T.Transport.meaning in
     let ok = g.T.Transport.sound in
@@ -94,10 +94,10 @@ returns-in-default g c =
     let j_is = c.job.ensures j in
     let st = c.state-state.result in
     let st_is = c.state-state.ensures st in
-    onward op net ok e _ (turn t.name t.number r) waits c.take-value.ensures.kept refl (λ p s. s)
+    onward op net ok e _ (turn t.name t.number r) waits c.take_value.ensures.kept refl (λ p s. s)
     (λ o h.
-    ap (λ n. (waits, with_jobs e.name (op e.operation) o n e.started (pending_jobs e.jobs))) (c.take-value.ensures.none c.in-default.is)
-    ∙ waits_step op net ok e t k r c.args.from c.args.label c.args.merge due o h j j_is st st_is (ap (λ i. mail_in (op e.operation) (oldest i ((net e.transport).arrived c.args.from r))) (sym c.job-tag-tag.ensures) ∙ sym c.take-value.ensures.answer ∙ c.in-default.is))
+    ap (λ n. (waits, with_jobs e.name (op e.operation) o n e.started (pending_jobs e.jobs))) (c.take_value.ensures.none c.in_default.is)
+    ∙ waits_step op net ok e t k r c.args.from c.args.label c.args.merge due o h j j_is st st_is (ap (λ i. mail_in (op e.operation) (oldest i ((net e.transport).arrived c.args.from r))) (sym c.job_tag-tag.ensures) ∙ sym c.take_value.ensures.answer ∙ c.in_default.is))
 
 pub merged-after-requires : goal.merged-after-requires
 merged-after-requires g c =
@@ -158,6 +158,6 @@ returns g c =
     let jobs = c.receive.ensures.changed ∙ ap (λ s. update k (with_received r s merge st.done v) (pending_jobs e.jobs)) c.merged-after.ensures in
     let front : merge ≡ Keep → take (st.done + 1) (set j.kept st.done v) ≡ take st.done j.kept ++ (v ∷ [])
     = λ keep. subst (λ i. take (st.done + 1) (set i.kept st.done v) ≡ take st.done i.kept ++ (v ∷ [])) (sym j_is) (c.receive.ensures.front keep j) in
-    onward op net ok e _ (turn t.name t.number r) took c.take-value.ensures.kept refl
+    onward op net ok e _ (turn t.name t.number r) took c.take_value.ensures.kept refl
     (λ p s. subst (AmongRanks p) (sym jobs) (ranks_update p k (with_received r new merge st.done v) (received_ranks r new merge st.done v) (pending_jobs e.jobs) s))
-    (λ o h. took_step op net ok e t k r c.args.from c.args.label c.args.merge due o h j j_is st st_is mail (c.in-Some.ensures.answer ∙ ap (λ i. mail_in (op e.operation) (oldest i ((net e.transport).arrived c.args.from r))) c.job-tag-tag.ensures) (net c.take-value.new.transport) (c.take-value.ensures.after ∙ ap (λ i. with_taken c.args.from r i (net e.transport)) c.job-tag-tag.ensures) (pending_jobs c.receive.new.self) jobs front)
+    (λ o h. took_step op net ok e t k r c.args.from c.args.label c.args.merge due o h j j_is st st_is mail (c.in-Some.ensures.answer ∙ ap (λ i. mail_in (op e.operation) (oldest i ((net e.transport).arrived c.args.from r))) c.job_tag-tag.ensures) (net c.take_value.new.transport) (c.take_value.ensures.after ∙ ap (λ i. with_taken c.args.from r i (net e.transport)) c.job_tag-tag.ensures) (pending_jobs c.receive.new.self) jobs front)
