@@ -19,9 +19,9 @@ loop-from-preserved g c =
     let e = c.args.engine.now in
     let p = c.args.ranks in
     let from = c.loop-from.from in
-    let after = c.carry-from.new.engine in
-    let more = runs_then op net ok e c.loop-from.engine after (carries p from) (carries_from from p) c.loop-from.invariant.1 c.carry-from.ensures.did in
-    (c.carry-from.ensures.sound, subst (λ k. Runs op net ok e after (carries p k)) (sym (add-one from)) more)
+    let after = c.carry_from.new.engine in
+    let more = runs_then op net ok e c.loop-from.engine after (carries p from) (carries_from from p) c.loop-from.invariant.1 c.carry_from.ensures.did in
+    (c.carry_from.ensures.sound, subst (λ k. Runs op net ok e after (carries p k)) (sym (add-one from)) more)
 
 pub returns : goal.returns
 returns g c =

@@ -6,8 +6,8 @@ use Rattle.runner.specs.Complete.{Completes, Unwritten, Does}
 use Rattle.runner.proofs.Completing.{driven, driven_completes}
 use Rattle.runner.proofs.complete.Goals as goal
 
-pub returns-in-err-token : goal.returns-in-err-token
-returns-in-err-token g c =
+pub returns-in_err-token : goal.returns-in_err-token
+returns-in_err-token g c =
     let op = g.O.Operation.meaning in
     let net = g.T.Transport.meaning in
     let ok = g.T.Transport.sound in
@@ -15,17 +15,17 @@ returns-in-err-token g c =
     let job = c.args.job in
     let words = c.args.inputs.now in
     let lent = c.args.out.now in
-    let q = err_from_is_err_and c.from-residual.result c.from-residual.ensures.1 in
+    let q = err_from_is_err_and c.from_residual.result c.from_residual.ensures.1 in
     let is = q.1 ∙ ap Err q.2 in
     record {
       sound = c.start.ensures.sound;
       answered = subst (Completes op net ok e job words lent lent) (sym is) tt;
       refused = subst (λ r. Unwritten r lent lent) (sym is) refl;
-      did = subst (Does op net ok e c.start.new.self job words lent lent c.args.budget) (sym is) c.in-err-token.ensures.step;
+      did = subst (Does op net ok e c.start.new.self job words lent lent c.args.budget) (sym is) c.in_err-token.ensures.step;
     }
 
-pub returns-in-err-tally : goal.returns-in-err-tally
-returns-in-err-tally g c =
+pub returns-in_err-tally : goal.returns-in_err-tally
+returns-in_err-tally g c =
     let op = g.O.Operation.meaning in
     let net = g.T.Transport.meaning in
     let ok = g.T.Transport.sound in
@@ -35,18 +35,18 @@ returns-in-err-tally g c =
     let lent = c.args.out.now in
     let out = c.finish.new.out in
     let last = c.finish.new.engine in
-    let token = c.in-ok-token.token in
-    let q = err_from_is_err_and c.from-residual-in-err-tally.result c.from-residual-in-err-tally.ensures.1 in
+    let token = c.in_ok-token.token in
+    let q = err_from_is_err_and c.from_residual-in_err-tally.result c.from_residual-in_err-tally.ensures.1 in
     let is = q.1 ∙ ap Err q.2 in
-    let fault = c.in-err-tally.field-0.0 in
+    let fault = c.in_err-tally.field-0.0 in
     let went =
     driven op net ok e c.start.new.self c.run.new.engine last job words lent c.args.budget token.name token.number c.run.result.sweeps c.run.result.finished
-    (refused (end_refusal fault)) (λ name number. abandon name number ∷ []) c.requires c.in-ok-token.ensures.step c.run.ensures.did c.run.ensures.within
-    c.run.ensures.stopped c.run.ensures.told c.in-err-tally.ensures.did in
+    (refused (end_refusal fault)) (λ name number. abandon name number ∷ []) c.requires c.in_ok-token.ensures.step c.run.ensures.did c.run.ensures.within
+    c.run.ensures.stopped c.run.ensures.told c.in_err-tally.ensures.did in
     record {
       sound = c.finish.ensures.sound;
       answered = subst (Completes op net ok e job words lent out) (sym is) tt;
-      refused = subst (λ r. Unwritten r lent out) (sym is) c.in-err-tally.ensures.refused;
+      refused = subst (λ r. Unwritten r lent out) (sym is) c.in_err-tally.ensures.refused;
       did = subst (Does op net ok e last job words lent out c.args.budget) (sym is) went;
     }
 
@@ -61,12 +61,12 @@ returns g c =
     let lent = c.args.out.now in
     let out = c.finish.new.out in
     let last = c.finish.new.engine in
-    let token = c.in-ok-token.token in
-    let tally = c.in-ok-tally.tally in
+    let token = c.in_ok-token.token in
+    let tally = c.in_ok-tally.tally in
     let went =
     driven op net ok e c.start.new.self c.run.new.engine last job words lent c.args.budget token.name token.number c.run.result.sweeps c.run.result.finished
-    (ended out tally.rounds tally.messages) (λ name number. []) c.requires c.in-ok-token.ensures.step c.run.ensures.did c.run.ensures.within
-    c.run.ensures.stopped c.run.ensures.told c.in-ok-tally.ensures.did in
+    (ended out tally.rounds tally.messages) (λ name number. []) c.requires c.in_ok-token.ensures.step c.run.ensures.did c.run.ensures.within
+    c.run.ensures.stopped c.run.ensures.told c.in_ok-tally.ensures.did in
     record {
       sound = c.finish.ensures.sound;
       answered = driven_completes op net ok e last job words lent out c.args.budget tally (λ name number. []) went;

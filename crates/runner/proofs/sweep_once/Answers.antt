@@ -18,6 +18,6 @@ returns g c =
     let number = c.args.token.now.number in
     let p = c.args.ranks in
     record {
-      sound = c.carry-all.ensures.sound;
-      did = runs_then op net ok e c.turn-all.new.engine c.carry-all.new.engine (turns name number p) (carries p p) c.turn-all.ensures.did c.carry-all.ensures.did;
+      sound = c.carry_all.ensures.sound;
+      did = runs_then op net ok e c.turn_all.new.engine c.carry_all.new.engine (turns name number p) (carries p p) c.turn_all.ensures.did c.carry_all.ensures.did;
     }
