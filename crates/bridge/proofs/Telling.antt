@@ -1,11 +1,11 @@
 -- What a job comes to on a new engine, in the words of the plain machine.
-use Rattle.std.proofs.Common.{◌≡◌, ℕ, ◌<◌, List, [], Ok, Err, Result, subst}
+use Rattle.std.proofs.Common.{◌≡◌, ℕ, List, Ok, Err, Result, subst}
 use Rattle.schedule.specs.declared.Collective.{Collective}
 use Rattle.schedule.specs.Collective.{kind_of, root_of}
 use Rattle.machine.specs.Operation.{Meaning}
 use Rattle.machine.specs.Network.{Network}
 use Rattle.machine.specs.Call.{Call, Answer, start, look, end, started, looked, refused}
-use Rattle.machine.specs.Plain.{Plain, step, made}
+use Rattle.machine.specs.Plain.{step, made}
 use Rattle.machine.specs.Record.{after}
 use Rattle.engine.specs.declared.answer.Tally.{Tally}
 use Rattle.engine.specs.declared.state.Engine.{Engine}

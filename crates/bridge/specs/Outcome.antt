@@ -12,7 +12,7 @@ use Rattle.schedule.specs.Collective.{kind_of, root_of}
 use Rattle.machine.specs.Operation.{Meaning}
 use Rattle.machine.specs.Network.{Network}
 use Rattle.machine.specs.Call.{Answer, start, look, end, started, looked, ended, refused, number_of, too_few_words}
-use Rattle.machine.specs.Plain.{Plain, step, made}
+use Rattle.machine.specs.Plain.{step, made}
 use Rattle.machine.specs.Record.{after}
 use Rattle.engine.specs.declared.answer.StartFault.{StartFault}
 use Rattle.engine.specs.declared.answer.StartFault.TheVariants as start_fault

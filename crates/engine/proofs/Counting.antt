@@ -1,12 +1,12 @@
 -- The sends of a job are few: a count of them fits a machine word.
-use Rattle.std.proofs.Common.{◌≡◌, ℕ, zero, suc, ◌+◌, ◌-◌, ◌*◌, ◌^◌, ◌<◌, ◌≤◌, Bool, true, false, cond, eqb, List, [], ◌∷◌, take, sym, ap, ◌∙◌, mul-le-mul_right, mul_comm, arith}
+use Rattle.std.proofs.Common.{ℕ, zero, suc, ◌+◌, ◌-◌, ◌*◌, ◌^◌, ◌<◌, ◌≤◌, Bool, true, false, cond, eqb, List, [], ◌∷◌, take, mul-le-mul_right, mul_comm, arith}
 use Rattle.ranks.specs.Ranks.{most_ranks}
 use Rattle.ranks.proofs.Sums.{sum-le}
 use Rattle.programme.specs.declared.Action.{Action}
 use Rattle.programme.specs.declared.Action.TheVariants.{Send, Take}
 use Rattle.programme.specs.declared.Kind.{Kind}
 use Rattle.programme.specs.declared.Kind.TheVariants.{Broadcast, Gather, Reduce, Scan, Exscan, Allreduce}
-use Rattle.programme.specs.Levels.{levels, floor_log, surplus}
+use Rattle.programme.specs.Levels.{floor_log}
 use Rattle.programme.specs.Formula.{messages}
 use Rattle.programme.specs.Formula.{sends}
 use Rattle.programme.proofs.Power.{lt_pow, levels_le, floor_log_le, surplus_splits}

@@ -1,11 +1,10 @@
 -- An end, of the job at a token's place.
-use Rattle.std.proofs.Common.{◌≡◌, ℕ, ◌+◌, ◌*◌, ◌<◌, ◌≤◌, Bool, true, false, cond, not, eqb, List, map, length, get_or, Some, None, sym, refl, ap, ◌∙◌, subst, ap₂, arith}
-use mathlib.Core.Option.{some, none}
+use Rattle.std.proofs.Common.{◌≡◌, ℕ, ◌*◌, ◌<◌, ◌≤◌, true, List, map, length, get_or, Some, None, sym, ap, ◌∙◌, subst, arith}
+use mathlib.Core.Option.{some}
 use Rattle.std.specs.List.{remove, AllByRecursion as All}
 use Rattle.std.proofs.lemmas.List.{get_or_default}
 use Rattle.std.proofs.lemmas.Bool.{eq-eqb, ne_eqb, lt-ltb, le-ltb}
 use Rattle.ranks.specs.Ranks.{most_ranks, greatest_below}
-use Rattle.programme.specs.Rank.{Rank, fresh}
 use Rattle.schedule.specs.declared.Collective.{Collective}
 use Rattle.schedule.specs.declared.Collective.TheVariants.{Broadcast, Gather, Reduce, Scan, Exscan, Allreduce}
 use Rattle.schedule.specs.Collective.{kind_of, root_of, Allowed}
@@ -22,12 +21,11 @@ use Rattle.machine.proofs.Jobs.{found}
 use Rattle.engine_parts.proofs.Packed.{length-packed}
 use Rattle.jobs.specs.declared.job.Job.{Job}
 use Rattle.jobs.specs.declared.job.RankState.{RankState}
-use Rattle.jobs.specs.Tables.{job_of, states, pending_jobs, idle_below, arrival_at, result_at, result_in, result_count, rank_in}
+use Rattle.jobs.specs.Tables.{job_of, states, pending_jobs, idle_below, arrival_at, result_at, result_count, rank_in}
 use Rattle.engine.specs.declared.state.Engine.{Engine}
 use Rattle.engine.specs.declared.token.Token.{Token}
 use Rattle.engine.specs.Abs.{plain, with_jobs, Stands, place_of}
 use Rattle.engine.proofs.Shown.{Seen, seen, not_shown}
-use Rattle.engine.proofs.Situation.{pick}
 use Rattle.engine.proofs.Leaving.{jobs_left}
 use Rattle.engine.proofs.Results.{results_are, outcome_proper, answer_count}
 use Rattle.engine.proofs.Looking as looking

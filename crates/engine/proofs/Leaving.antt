@@ -1,16 +1,14 @@
 -- A job leaves its place.
-use Rattle.std.proofs.Common.{◌≡◌, ℕ, zero, suc, ◌<◌, ◌≤◌, Bool, true, false, cond, not, eqb, List, [], ◌∷◌, ◌++◌, map, length, get_or, take, drop, Some, None, filter, sym, refl, ap, ◌∙◌, ap₂, arith}
-use mathlib.Core.Option.{some, none}
+use Rattle.std.proofs.Common.{◌≡◌, ℕ, zero, suc, ◌<◌, ◌≤◌, not, eqb, List, [], ◌∷◌, ◌++◌, map, length, get_or, take, drop, Some, None, filter, sym, refl, ap, ◌∙◌, arith}
 use lib.ListN.{get_or-map}
 use Rattle.std.specs.List.{remove}
 use Rattle.machine.specs.Operation.{Meaning}
 use Rattle.machine.specs.Network.{Network, with_abandoned}
-use Rattle.machine.specs.Plain.{Plain, Answer, abandon, abandoned, refused, no_job, step, numbered, shown, without_job}
-use Rattle.machine.specs.Sound.{Good}
+use Rattle.machine.specs.Plain.{Plain, Answer, abandon, abandoned, refused, no_job, step, without_job}
 use Rattle.machine.proofs.Places.{without_at, number_small}
 use Rattle.machine.proofs.Steps.{abandon_no_job, abandon_done}
 use Rattle.jobs.specs.declared.job.Job.{Job}
-use Rattle.jobs.specs.Tables.{job_of, states, pending_jobs}
+use Rattle.jobs.specs.Tables.{job_of, pending_jobs}
 use Rattle.engine.specs.declared.state.Engine.{Engine}
 use Rattle.engine.specs.declared.token.Token.{Token}
 use Rattle.engine.specs.Abs.{plain, with_jobs, Stands, place_of, AmongRanks}

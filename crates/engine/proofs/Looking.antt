@@ -1,5 +1,5 @@
 -- A look counts the ranks that the plain machine counts.
-use Rattle.std.proofs.Common.{◌≡◌, ℕ, ◌<◌, ◌≤◌, cond, leb, length, get_or, Some, None, sym, refl, ap, ◌∙◌, ap₂, arith}
+use Rattle.std.proofs.Common.{◌≡◌, ℕ, ◌<◌, ◌≤◌, cond, leb, length, get_or, Some, None, sym, ap, ◌∙◌, ap₂, arith}
 use mathlib.Core.Option.{some}
 use Rattle.std.proofs.lemmas.List.{get_or_default}
 use Rattle.schedule.specs.Collective.{actions_of}

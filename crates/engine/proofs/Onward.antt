@@ -1,5 +1,5 @@
 -- A step of an engine that is the plain machine's step leaves an engine that stands.
-use Rattle.std.proofs.Common.{◌≡◌, ℕ, Bool, eqb, List, sym, refl, ap, ◌∙◌, subst}
+use Rattle.std.proofs.Common.{◌≡◌, ℕ, eqb, sym, ap, ◌∙◌, subst}
 use Rattle.machine.specs.Operation.{Meaning}
 use Rattle.machine.specs.Network.{Network, waiting_in_all}
 use Rattle.machine.specs.Plain.{Plain, Call, Answer, step}

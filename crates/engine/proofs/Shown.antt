@@ -1,13 +1,12 @@
 -- The place of a token's job, and the job that the plain machine shows.
-use Rattle.std.proofs.Common.{◌≡◌, ℕ, zero, suc, ◌+◌, ◌-◌, ◌<◌, ◌≤◌, Bool, true, false, cond, eqb, ◌⊎◌, List, [], ◌∷◌, map, length, get_or, Some, None, Option, sym, refl, ap, ◌∙◌, inl, inr, arith}
+use Rattle.std.proofs.Common.{◌≡◌, ℕ, zero, suc, ◌+◌, ◌-◌, ◌<◌, ◌≤◌, cond, eqb, List, [], ◌∷◌, map, length, get_or, Some, None, Option, refl, inl, inr, arith}
 use mathlib.Core.Option.{some, none}
-use Rattle.std.specs.List.{AllByRecursion as All}
 use Rattle.std.proofs.lemmas.Bool.{cases_Bool, eqb-true}
 use Rattle.machine.specs.Operation.{Meaning}
 use Rattle.machine.specs.Network.{Network}
 use Rattle.machine.specs.Plain.{numbered, shown}
 use Rattle.jobs.specs.declared.job.Job.{Job}
-use Rattle.jobs.specs.Tables.{job_of, states, place_from, place}
+use Rattle.jobs.specs.Tables.{job_of, place_from, place}
 use Rattle.engine.specs.Abs.{with_jobs, AmongRanks}
 
 module _ {E : Type 0} where

@@ -1,5 +1,5 @@
 -- An engine in which an action of a rank is due.
-use Rattle.std.proofs.Common.{◌≡◌, ℕ, zero, suc, ◌+◌, ◌^◌, ◌<◌, ◌≤◌, max, true, cond, List, [], ◌∷◌, ◌++◌, map, length, get_or, take, set, Some, None, sym, refl, ap, ◌∙◌, subst, arith}
+use Rattle.std.proofs.Common.{◌≡◌, ℕ, zero, suc, ◌+◌, ◌^◌, ◌<◌, ◌≤◌, max, true, List, [], ◌∷◌, ◌++◌, length, get_or, take, set, Some, None, sym, refl, ap, ◌∙◌, subst, arith}
 use mathlib.Core.Option.{some}
 use Rattle.std.specs.List.{slice_get}
 use Rattle.programme.specs.declared.Action.{Action}
@@ -25,7 +25,7 @@ use Rattle.jobs.specs.Updates.{update}
 use Rattle.engine.specs.declared.state.Engine.{Engine}
 use Rattle.engine.specs.declared.token.Token.{Token}
 use Rattle.engine.specs.Abs.{plain, with_jobs, Stands, Due, place_of, AmongRanks, state_taken}
-use Rattle.engine.proofs.Shown.{Placed, Seen, seen, not_shown}
+use Rattle.engine.proofs.Shown.{Seen, seen, not_shown}
 use Rattle.engine.proofs.Turning as turning
 
 -- a change of one job that leaves its schedule

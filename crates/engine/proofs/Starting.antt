@@ -1,10 +1,9 @@
 -- A start, test by test, and the new job.
 use Rattle.std.proofs.Common.{◌≡◌, ℕ, zero, suc, ◌+◌, ◌-◌, ◌*◌, ◌<◌, ◌≤◌, Bool, true, false, cond, ◌||◌, eqb, ltb, leb, List, [], ◌∷◌, ◌++◌, map, length, take, drop, replicate, Ok, Err, Result, sym, refl, ap, ◌∙◌, subst, ap₂, arith, length-append}
-use mathlib.Core.Option.{Option, none, some}
+use mathlib.Core.Option.{none, some}
 use lib.Seq.{take-append_seam}
-use Rattle.std.specs.List.{AllByRecursion as All}
 use Rattle.std.proofs.lemmas.List.{length-replicate, length-map, take-map, map-append}
-use Rattle.std.proofs.lemmas.Bool.{le-ltb, lt-ltb, le-leb, lt-leb, eq-eqb, ne_eqb, or_left, or_from}
+use Rattle.std.proofs.lemmas.Bool.{le-ltb, lt-ltb, le-leb, lt-leb, eq-eqb, ne_eqb, or_left}
 use Rattle.ranks.specs.Ranks.{most_ranks}
 use Rattle.programme.specs.Rank.{Rank, fresh}
 use Rattle.programme.specs.Formula.{messages}
@@ -16,7 +15,7 @@ use Rattle.machine.specs.Operation.{Meaning, BlockFault}
 use Rattle.machine.specs.Network.{Network}
 use Rattle.machine.specs.Job as machine
 use Rattle.machine.specs.Job.{blocks, elements}
-use Rattle.machine.specs.Plain.{Plain, Answer, Refusal, start, started, refused, unfit, bad_root, bad_length, bad_block, four_pending, crowded, numbers_spent, step, fit, root_for, blocks_read, block_refusal, crowds, messages_pending, new_job, with_started}
+use Rattle.machine.specs.Plain.{Plain, Answer, start, started, refused, unfit, bad_root, bad_length, bad_block, four_pending, crowded, numbers_spent, step, fit, root_for, blocks_read, block_refusal, crowds, messages_pending, new_job}
 use Rattle.machine.proofs.Steps.{start_unfit, start_root, start_length, start_block, start_four, start_crowded, start_spent, start_done}
 use Rattle.engine_parts.specs.declared.inputs.BadBlock.{BadBlock}
 use Rattle.engine_parts.specs.Inputs as parts

@@ -1,8 +1,8 @@
 -- A turn of one rank of a job at a place: what the plain machine knows of it, and what it comes to.
-use Rattle.std.proofs.Common.{◌≡◌, ℕ, zero, suc, ◌+◌, ◌*◌, ◌^◌, ◌<◌, ◌≤◌, max, Bool, true, false, cond, eqb, ltb, ◌⊎◌, List, [], ◌∷◌, ◌++◌, map, length, get_or, take, drop, set, Some, None, Ok, Err, Option as Found, Result, sym, refl, ap, ◌∙◌, subst, ap₂, inl, inr, zero-add, arith, length-take-le, get_or-take}
-use mathlib.Core.Option.{Option, some, none}
+use Rattle.std.proofs.Common.{◌≡◌, ℕ, zero, suc, ◌+◌, ◌^◌, ◌<◌, ◌≤◌, max, Bool, true, false, cond, eqb, List, [], ◌∷◌, ◌++◌, map, length, get_or, take, drop, set, Some, None, Ok, Err, Option as Found, Result, sym, refl, ap, ◌∙◌, subst, ap₂, zero-add, arith, length-take-le, get_or-take}
+use mathlib.Core.Option.{some, none}
 use lib.ListN.{get_elem?, get_or-map}
-use lib.Seq.{take-set-lt, map-set}
+use lib.Seq.{take-set-lt}
 use Rattle.std.specs.List.{slice_get}
 use Rattle.std.proofs.lemmas.Bool.{eq-eqb, lt-ltb}
 use Rattle.programme.specs.declared.Action.{Action}
@@ -15,11 +15,11 @@ use Rattle.machine.specs.Operation.{Meaning}
 use Rattle.machine.specs.Network.{Message, Network, waiting, with_taken}
 use Rattle.machine.specs.Job as machine
 use Rattle.machine.specs.Job.{rank_of, actions}
-use Rattle.machine.specs.Plain.{Plain, Answer, Move, sends, takes, sent, took, turn, step, numbered, shown, moved, moved_job, moved_ranks, moved_count, after_move, message_of, tag_of}
-use Rattle.machine.specs.Sound.{JobSound, Sound, Good}
+use Rattle.machine.specs.Plain.{Plain, Answer, Move, sends, takes, sent, took, turn, step, numbered, shown, moved_job, moved_ranks, moved_count, after_move, message_of, tag_of}
+use Rattle.machine.specs.Sound.{JobSound, Good}
 use Rattle.machine.proofs.Jobs.{found}
 use Rattle.machine.proofs.Places.{moved_at}
-use Rattle.machine.proofs.Steps.{turn_sends, turn_takes, turn_waits, turn_through}
+use Rattle.machine.proofs.Steps.{turn_sends, turn_takes, turn_waits}
 use Rattle.machine.proofs.Crowd.{sendable, fitting, take-apart}
 use Rattle.machine.proofs.Clocks.{arrival_small, departure_small, rounds_few}
 use Rattle.machine.proofs.Turn.{sent_apart}

@@ -1,5 +1,5 @@
 -- The plain machine that an engine stands for, and the sound engines.
-use Rattle.std.specs.Prelude.{◌≡◌, ℕ, ◌+◌, ◌^◌, ◌<◌, max, Bool, cond, List, map, get_or, Some, None, Option, ◌==◌, slice_index_or}
+use Rattle.std.specs.Prelude.{◌≡◌, ℕ, ◌+◌, ◌^◌, ◌<◌, max, cond, List, map, get_or, Some, None, Option, ◌==◌, slice_index_or}
 use Rattle.std.specs.List.{AllByRecursion as All, slice_get}
 use Rattle.programme.specs.declared.Action.{Action}
 use Rattle.programme.specs.declared.Merge.{Merge}

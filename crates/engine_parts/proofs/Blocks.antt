@@ -1,9 +1,9 @@
 -- Consecutive blocks, read or written one after the other.
-use Rattle.std.proofs.Common.{◌≡◌, ℕ, suc, ◌+◌, ◌-◌, ◌*◌, ◌<◌, ◌≤◌, true, List, [], ◌∷◌, ◌++◌, map, length, get_or, take, drop, set, replicate, Ok, Err, Result, sym, refl, ap, ◌∙◌, subst, ap₂, append_assoc, append-nil, mul-le-mul_right, add-mul, one-mul, zero-mul, arith, length-append, length-drop, length-take, take_all}
+use Rattle.std.proofs.Common.{◌≡◌, ℕ, suc, ◌+◌, ◌-◌, ◌*◌, ◌<◌, ◌≤◌, true, List, [], ◌∷◌, ◌++◌, map, length, take, drop, set, replicate, Ok, Err, Result, sym, refl, ap, ◌∙◌, ap₂, append_assoc, append-nil, mul-le-mul_right, zero-mul, arith, length-drop}
 use borrow.Rule.Slice.PartMut.{put_mid}
 use lib.Seq.{take-append_seam, drop-append-add}
-use Rattle.std.specs.List.{flat_map, AllByRecursion as All}
-use Rattle.std.proofs.lemmas.List.{take_more, take_more_set, take-append-drop, drop-drop, drop-set-lt, drop-replicate, length-set, length-replicate, flat_map_more}
+use Rattle.std.specs.List.{AllByRecursion as All}
+use Rattle.std.proofs.lemmas.List.{take_more_set, take-append-drop, drop-drop, drop-set-lt, drop-replicate, length-set, flat_map_more}
 use Rattle.operation.specs.Meaning.{Meaning, Packing, written as written_front}
 use Rattle.operation.specs.declared.fault.BlockFault.{BlockFault}
 use Rattle.operation.proofs.Written.{written_behind, written_enough}

@@ -1,7 +1,7 @@
 -- All that is under way between two ranks carried, one message after the other.
-use Rattle.std.proofs.Common.{◌≡◌, ℕ, suc, ◌<◌, Bool, true, false, cond, List, [], ◌∷◌, ◌++◌, length, sym, refl, ap, ◌∙◌, ap₂, arith}
+use Rattle.std.proofs.Common.{◌≡◌, ℕ, ◌<◌, Bool, true, false, cond, List, [], ◌∷◌, ◌++◌, length, sym, refl, ap, ◌∙◌, ap₂, arith}
 use Rattle.std.proofs.lemmas.List.{append-nil, append_assoc}
-use Rattle.transport.specs.Network.{Network, Message, Reply, value, refused, put, with_lists, carry_reply, after_carry, carried, some_moved}
+use Rattle.transport.specs.Network.{Network, Message, value, refused, put, with_lists, carry_reply, after_carry, carried, some_moved}
 use Rattle.ranks.specs.Ranks.{pair_ok}
 use Rattle.transport.proofs.Tables.{put_here, put_put, put_same}
 use Rattle.engine_parts.specs.Clearing.{some_in, delivered}

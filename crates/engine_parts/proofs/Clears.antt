@@ -1,15 +1,15 @@
 -- One pair of ranks after the other cleared.
-use Rattle.std.proofs.Common.{◌≡◌, ℕ, ◌+◌, Bool, true, false, cond, not, ◌&&◌, ◌||◌, eqb, ltb, ◌⊎◌, List, [], ◌∷◌, ◌++◌, length, Ok, Err, Result, sym, refl, ap, ◌∙◌, ap₂, inl, inr, arith}
+use Rattle.std.proofs.Common.{◌≡◌, ℕ, ◌+◌, Bool, true, false, cond, not, ◌&&◌, ◌||◌, eqb, ltb, ◌⊎◌, List, [], ◌++◌, Ok, Err, Result, sym, refl, ap, ◌∙◌, ap₂, inl, inr, arith}
 use mathlib.Core.Path.{fun_ext}
 use Rattle.std.proofs.lemmas.Bool.{cases_Bool, eq-eqb, le-ltb, and_parts}
 use Rattle.std.proofs.lemmas.Bool.Decides.{nat_tests}
 use Rattle.std.proofs.lemmas.List.{nil_from_length}
 use Rattle.std.specs.Result.{result_unwrap_or}
 use Rattle.transport.specs.declared.Fault.{Fault}
-use Rattle.transport.specs.Network.{Network, Message, Reply, value, refused, put, with_lists, between, between_reply, counting, Shaped}
+use Rattle.transport.specs.Network.{Network, Message, value, refused, put, with_lists, between, between_reply, counting, Shaped}
 use Rattle.ranks.specs.Ranks.{pair_ok}
 use Rattle.transport.proofs.Replies.{between_good, between_bad}
-use Rattle.transport.proofs.Tables.{put_is, put_here, put_put, put_other}
+use Rattle.transport.proofs.Tables.{put_is, put_here, put_put}
 use Rattle.engine_parts.specs.Clearing.{others, of_job, waiting_at, delivered, purged, cleared, with_abandoned, one_pair, row_below, rows_below}
 use Rattle.engine_parts.proofs.Carries.{delivered_done}
 use Rattle.engine_parts.proofs.Purges.{purged_empty}

@@ -1,12 +1,12 @@
 -- What a take tells of the oldest message.
-use Rattle.std.proofs.Common.{◌≡◌, ℕ, ◌+◌, ◌-◌, ◌≤◌, Bool, true, false, cond, eqb, List, [], ◌∷◌, ◌++◌, length, get_or, take, drop, is_some, Some, None, Ok, Option, sym, refl, ap, ◌∙◌, ap₂, one-add, arith, take_all}
+use Rattle.std.proofs.Common.{◌≡◌, ℕ, ◌+◌, ◌-◌, ◌≤◌, Bool, true, false, cond, eqb, List, [], ◌∷◌, ◌++◌, length, get_or, take, drop, is_some, Some, None, Ok, Option, sym, refl, ap, ◌∙◌, ap₂, arith, take_all}
 use Rattle.std.specs.List.{AllByRecursion as All}
 use lib.Seq.{take-append-le}
 use Rattle.operation.specs.Meaning.{Meaning, Packing}
-use Rattle.transport.specs.Network.{Network, Message, Reply, value, none, refused, taking, word_count, oldest, take-reply, taken_words, written, Shaped}
+use Rattle.transport.specs.Network.{Network, Message, value, none, refused, taking, word_count, oldest, take-reply, taken_words, written, Shaped}
 use Rattle.ranks.specs.Ranks.{pair_ok}
 use Rattle.transport.proofs.Replies.{take_found, taken_found}
-use Rattle.engine_parts.specs.Mail.{Sent, Legible, words_of, stamped, read_words}
+use Rattle.engine_parts.specs.Mail.{Sent, Legible, stamped, read_words}
 use Rattle.engine_parts.proofs.Packed.{length-block}
 
 -- a message's words at the front of a buffer

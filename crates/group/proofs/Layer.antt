@@ -1,16 +1,16 @@
 -- What the group answers, and what it stands for after a call to the transport below.
-use Rattle.std.proofs.Common.{◌≡◌, ℕ, zero, suc, ◌+◌, ◌<◌, ◌≤◌, Bool, true, false, cond, not, ◌&&◌, eqb, ltb, leb, ◌⊎◌, List, [], ◌∷◌, ◌++◌, length, get_or, Option, sym, refl, ap, ◌∙◌, subst, ap₂, inl, inr, arith}
+use Rattle.std.proofs.Common.{◌≡◌, ℕ, ◌+◌, ◌<◌, ◌≤◌, Bool, true, false, cond, not, ◌&&◌, eqb, ltb, leb, ◌⊎◌, List, [], ◌∷◌, ◌++◌, length, get_or, sym, refl, ap, ◌∙◌, subst, ap₂, inl, inr, arith}
 use mathlib.Core.Path.{fun_ext}
-use Rattle.std.proofs.lemmas.Bool.{cases_Bool, cases_eq, and_parts, and_from, and_left, and_right, ne_eqb, eq-eqb, eqb-true, eqb-false, lt-ltb, true≢false}
+use Rattle.std.proofs.lemmas.Bool.{cases_Bool, and_parts, and_from, and_left, and_right, ne_eqb, eq-eqb, eqb-true, eqb-false, lt-ltb, true≢false}
 use Rattle.transport.specs.declared.Fault.TheVariants.{BadPair, TooLong, PairFull, NoRoom, ShortBuffer}
-use Rattle.transport.specs.Network.{Network, Message, message, Reply, refused, done, none, value, refuse_if, between, waiting, put, with_lists, between_reply, send_reply, sent, when_done, after_send, carry_reply, carried, after_carry, some_moved, may_take, take-reply, after_take, taken_words, word_count, written, oldest, without, Shaped}
+use Rattle.transport.specs.Network.{Network, Message, Reply, refused, done, none, value, refuse_if, between, waiting, put, with_lists, between_reply, send_reply, sent, when_done, after_send, carry_reply, carried, after_carry, may_take, take-reply, after_take, taken_words, word_count, written, oldest, without, Shaped}
 use Rattle.ranks.specs.Ranks.{most_ranks, pair_ok, sum_below}
 use Rattle.ranks.proofs.Sums.{sum_same, sum_zeros}
 use Rattle.transport.proofs.Pairs.{pair_parts}
 use Rattle.transport.proofs.Shapes.{layer_open}
 use Rattle.transport.proofs.Tables.{put_is, put_here, put_other}
 use Rattle.transport.proofs.Many.{nothing_waits}
-use Rattle.group.specs.Members.{seen, open_group, grouped, Outside, Inside, Distinct, GoodList, Grouping, new_group}
+use Rattle.group.specs.Members.{seen, open_group, grouped, Outside, GoodList, Grouping, new_group}
 use Rattle.group.proofs.Through.{sum_through}
 
 -- a group with ranks

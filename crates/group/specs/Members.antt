@@ -1,5 +1,5 @@
 -- A group of ranks of a transport, and the network that it stands for.
-use Rattle.std.specs.Prelude.{◌≡◌, ℕ, ◌<◌, ◌≤◌, Bool, true, false, cond, ◌⊎◌, List, [], length, ◌≢◌, slice_index}
+use Rattle.std.specs.Prelude.{◌≡◌, ℕ, ◌<◌, ◌≤◌, cond, ◌⊎◌, List, [], length, ◌≢◌, slice_index}
 use Rattle.ranks.specs.Ranks.{most_ranks, pair_ok}
 use Rattle.transport.specs.Network.{Network, Message, quiet, when_ranks}
 

@@ -1,6 +1,6 @@
 -- The group's network has the shape of a network.
-use Rattle.std.specs.Prelude.{◌≡◌, ℕ, ◌<◌, ◌≤◌, Bool, true, false, cond, List, [], ◌≢◌, slice_index, refl}
-use Rattle.std.proofs.Common.{sym, ap, subst, ◌∙◌, arith}
+use Rattle.std.specs.Prelude.{ℕ, ◌<◌, Bool, true, false, cond, List, [], ◌≢◌, slice_index, refl}
+use Rattle.std.proofs.Common.{arith}
 use Rattle.ranks.specs.Ranks.{pair_ok}
 use Rattle.transport.specs.Network.{Network, Message, Shaped, Short}
 use Rattle.transport.proofs.Shapes.{layer_shaped}

@@ -1,5 +1,5 @@
 -- The jobs of the plain machine that a table stands for.
-use Rattle.std.specs.Prelude.{ℕ, zero, suc, ◌+◌, ◌-◌, Bool, true, false, cond, List, [], ◌∷◌, length, get_or, take, replicate, Some, None, Option, ◌==◌, nat_le, nat_lt, slice_index_or, slice_set}
+use Rattle.std.specs.Prelude.{ℕ, suc, ◌+◌, ◌-◌, Bool, false, cond, List, [], ◌∷◌, length, get_or, take, replicate, Some, None, Option, ◌==◌, nat_le, nat_lt, slice_index_or, slice_set}
 use Rattle.ranks.specs.Ranks.{most_ranks, sum_below}
 use Rattle.programme.specs.Rank.{Rank}
 use Rattle.programme.specs.declared.Merge.{Merge}

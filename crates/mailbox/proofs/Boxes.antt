@@ -1,6 +1,5 @@
 -- The boxes of the pairs lie apart.
-use Rattle.std.proofs.Common.{◌≡◌, ℕ, zero, suc, ◌+◌, ◌-◌, ◌*◌, ◌/◌, ◌%◌, ◌<◌, ◌≤◌, Bool, true, false, cond, not, ◌&&◌, eqb, ◌⊎◌, List, [], ◌∷◌, ◌++◌, length, sym, refl, ap, ◌∙◌, subst, ap₂, inl, inr, mul-le-mul_right, add-mul, one-mul, arith}
-use mathlib.Core.Path.{fun_ext}
+use Rattle.std.proofs.Common.{◌≡◌, ℕ, ◌+◌, ◌*◌, ◌/◌, ◌%◌, ◌<◌, ◌≤◌, Bool, true, false, ◌&&◌, eqb, ◌⊎◌, List, sym, refl, ap, ◌∙◌, inl, inr, mul-le-mul_right, add-mul, one-mul, arith}
 use Rattle.std.proofs.lemmas.Nat.{mul-add-lt, div-mul-add, mod-mul-add}
 use Rattle.std.proofs.lemmas.Bool.{cases_Bool, cases_order, and_from, eq-eqb, true≢false}
 use Rattle.ranks.specs.Ranks.{pair_ok}
@@ -9,7 +8,7 @@ use Rattle.transport.specs.Stored.{listed}
 use Rattle.transport.proofs.Tables.{put_is}
 use Rattle.transport.proofs.Pairs.{pair_parts}
 use Rattle.mailbox.specs.declared.Slot.{Slot}
-use Rattle.mailbox.specs.Slots.{slot_at, row, message_of, base, box}
+use Rattle.mailbox.specs.Slots.{slot_at, message_of, base, box}
 use Rattle.mailbox.specs.Matrix.{filed_lists}
 use Rattle.mailbox.proofs.Rows.{row_same}
 

@@ -1,12 +1,12 @@
 -- What the matrix stands for after each call.
-use Rattle.std.proofs.Common.{◌≡◌, ℕ, zero, suc, ◌+◌, ◌-◌, ◌*◌, ◌<◌, ◌≤◌, Bool, true, false, cond, not, ◌&&◌, eqb, ltb, leb, ◌⊎◌, List, [], ◌∷◌, ◌++◌, length, get_or, take, drop, replicate, Some, sym, refl, ap, ◌∙◌, subst, ap₂, inl, inr, mul-le-mul, arith}
+use Rattle.std.proofs.Common.{◌≡◌, ℕ, zero, suc, ◌+◌, ◌-◌, ◌*◌, ◌<◌, ◌≤◌, Bool, true, false, cond, ◌&&◌, eqb, leb, ◌⊎◌, List, [], ◌∷◌, ◌++◌, length, get_or, take, drop, replicate, Some, sym, refl, ap, ◌∙◌, subst, ap₂, inl, inr, mul-le-mul, arith}
 use mathlib.Core.Path.{fun_ext}
 use Rattle.std.specs.List.{HoldsAt, AllByRecursion as All}
 use Rattle.std.proofs.lemmas.List.{length-take-le, length-replicate, get_or-replicate, get_or_past}
 use Rattle.std.proofs.lemmas.Bool.{cases_Bool, cases_lt, and_parts, eqb-true, leb-true, eq-eqb, true≢false}
 use Rattle.std.proofs.ByRecursion.{All-weaker}
 use Rattle.ranks.specs.Ranks.{most_ranks, pair_ok}
-use Rattle.transport.specs.Network.{Network, Message, message, quiet, nobody, between, waiting, put, with_lists, sent, value, carry_reply, after_carry, oldest, without}
+use Rattle.transport.specs.Network.{Network, quiet, nobody, between, waiting, put, with_lists, sent, value, carry_reply, after_carry, oldest, without}
 use Rattle.transport.specs.Stored.{listed}
 use Rattle.transport.proofs.Pairs.{no_pair_of_none}
 use Rattle.transport.proofs.Tables.{put_same, sum-nowhere}

@@ -2,8 +2,8 @@
 use Rattle.std.proofs.Common.{◌≡◌, ℕ, ◌+◌, ◌-◌, ◌%◌, ◌^◌, ◌<◌, ◌≤◌, Bool, true, false, cond, not, ◌&&◌, List, [], ◌∷◌, ◌++◌, length, get_or, take, sym, refl, ap, ◌∙◌, append-nil, arith, length-append}
 use Rattle.std.proofs.lemmas.List.{take_more}
 use Rattle.operation.specs.TextLaws.{lost_small}
-use Rattle.operation.specs.Text.{counts_of, counts_join, text_join, lost_word, measured, is_space, in_word, line_count, word_starts, word_count, last_byte}
-use Rattle.operation.specs.declared.text.TextElement.TheVariants.{Empty, Filled}
+use Rattle.operation.specs.Text.{counts_of, text_join, lost_word, measured, in_word, line_count, word_starts, word_count, last_byte}
+use Rattle.operation.specs.declared.text.TextElement.TheVariants.{Filled}
 
 lines_append : (xs ys : List ℕ) → line_count (xs ++ ys) ≡ line_count xs + line_count ys
 lines_append [] ys = omega arith

@@ -1,5 +1,5 @@
 -- A block at the front of lent words, and what it unpacks to.
-use Rattle.std.proofs.Common.{◌≡◌, ℕ, ◌+◌, ◌-◌, ◌<◌, ◌≤◌, Bool, true, false, cond, leb, List, [], ◌++◌, length, take, drop, Ok, Result, sym, refl, ap, ◌∙◌, ap₂, append-nil, arith, length-append, length-drop, take_all}
+use Rattle.std.proofs.Common.{◌≡◌, ℕ, ◌+◌, ◌-◌, ◌<◌, ◌≤◌, true, leb, List, [], ◌++◌, length, take, drop, Ok, refl, ap, ◌∙◌, ap₂, append-nil, arith, length-append, length-drop, take_all}
 use borrow.Rule.Slice.PartMut.{put_mid}
 use lib.Seq.{take-append-le}
 use Rattle.std.proofs.lemmas.List.{drop_all}

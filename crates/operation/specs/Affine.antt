@@ -1,5 +1,5 @@
 -- Maps y → a × y + b modulo m, joined by doing the left one first.
-use Rattle.std.specs.Prelude.{ℕ, ◌+◌, ◌*◌, ◌%◌, Bool, cond, ◌&&◌, List, [], ◌∷◌, Ok, Err, Result, nat_le, nat_lt, slice_index}
+use Rattle.std.specs.Prelude.{ℕ, ◌+◌, ◌*◌, ◌%◌, Bool, cond, ◌&&◌, [], ◌∷◌, Ok, Err, Result, nat_le, nat_lt, slice_index}
 use Rattle.operation.specs.Meaning.{Meaning, sized}
 use Rattle.operation.specs.declared.fault.BlockFault.{BlockFault}
 use Rattle.operation.specs.declared.fault.BlockFault.TheVariants.{WrongWord}

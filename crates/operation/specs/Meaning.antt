@@ -1,5 +1,5 @@
 -- What an operation means, and the laws that every operation keeps.
-use Rattle.std.specs.Prelude.{◌≡◌, ℕ, ◌^◌, ◌<◌, ◌≤◌, Bool, true, cond, List, ◌++◌, length, drop, Ok, Err, Result, ◌==◌, ◌≢◌, nat_le}
+use Rattle.std.specs.Prelude.{◌≡◌, ℕ, ◌^◌, ◌<◌, Bool, true, cond, List, ◌++◌, length, drop, Ok, Err, Result, ◌==◌, ◌≢◌, nat_le}
 use Rattle.std.specs.List.{AllByRecursion as All}
 use Rattle.operation.specs.declared.fault.BlockFault.{BlockFault}
 use Rattle.operation.specs.declared.fault.BlockFault.TheVariants.{WrongLength, WrongWord}

@@ -1,5 +1,5 @@
 -- Counts of a text that can be joined: bytes, lines and words.
-use Rattle.std.specs.Prelude.{◌≡◌, ℕ, suc, ◌+◌, ◌-◌, ◌*◌, ◌/◌, ◌%◌, ◌^◌, Bool, true, false, cond, not, ◌&&◌, ◌||◌, List, [], ◌∷◌, ◌++◌, length, Ok, Err, Result, ◌==◌, nat_le, nat_lt, slice_index}
+use Rattle.std.specs.Prelude.{◌≡◌, ℕ, ◌+◌, ◌-◌, ◌*◌, ◌/◌, ◌%◌, ◌^◌, Bool, true, false, cond, not, ◌&&◌, ◌||◌, List, [], ◌∷◌, ◌++◌, length, Ok, Err, Result, ◌==◌, nat_le, nat_lt, slice_index}
 use Rattle.operation.specs.Meaning.{Meaning, sized}
 use Rattle.operation.specs.declared.fault.BlockFault.{BlockFault}
 use Rattle.operation.specs.declared.fault.BlockFault.TheVariants.{WrongWord}

@@ -1,11 +1,11 @@
 -- The laws of `text`.
-use Rattle.std.specs.Prelude.{◌≡◌, ℕ, ◌+◌, ◌-◌, ◌*◌, ◌/◌, ◌%◌, ◌^◌, ◌<◌, ◌≤◌, Bool, true, false, cond, ◌&&◌, List, [], ◌∷◌, length, Ok, Err, ◌==◌, nat_le, nat_lt, slice_index, refl}
-use Rattle.std.proofs.Common.{sym, ap, ◌∙◌, arith}
+use Rattle.std.specs.Prelude.{◌≡◌, ℕ, ◌+◌, ◌-◌, ◌*◌, ◌/◌, ◌%◌, ◌^◌, ◌<◌, ◌≤◌, Bool, true, false, cond, ◌&&◌, List, [], ◌∷◌, length, Ok, ◌==◌, nat_le, nat_lt, slice_index, refl}
+use Rattle.std.proofs.Common.{ap, ◌∙◌, arith}
 use Rattle.std.proofs.lemmas.Bool.Decides.{nat_tests}
 use Rattle.std.proofs.lemmas.Bool.{cond-true, cond_both, eqb-true, leb-true, ltb-true, and_parts}
 use Rattle.std.specs.List.{AllByRecursion as All}
 use Rattle.operation.specs.Meaning.{Monoid, Packing}
-use Rattle.operation.specs.Text.{text, counts_of, counts_proper, counts_join, text_proper, text_join, text_pack, text_read, empty_read, filled_read, edge_of, lost_word}
+use Rattle.operation.specs.Text.{text, counts_of, counts_proper, counts_join, text_proper, text_join, text_pack, text_read, empty_read, filled_read, lost_word}
 use Rattle.operation.specs.declared.text.Counts.{Counts}
 use Rattle.operation.specs.declared.text.TextElement.{TextElement}
 use Rattle.operation.specs.declared.text.TextElement.TheVariants.{Empty, Filled}

@@ -1,12 +1,12 @@
 -- Calls one after the other.
-use Rattle.std.proofs.Common.{◌≡◌, ℕ, List, [], ◌∷◌, ◌++◌, sym, refl, ap, ◌∙◌, subst}
+use Rattle.std.proofs.Common.{◌≡◌, List, [], ◌∷◌, ◌++◌, sym, refl, ap, ◌∙◌}
 use Rattle.machine.specs.Operation.{Meaning}
 use Rattle.machine.specs.Network.{Network}
 use Rattle.machine.specs.Call.{Call, Answer}
 use Rattle.machine.specs.Plain.{Plain, step}
 use Rattle.machine.specs.Record.{after}
 use Rattle.engine.specs.declared.state.Engine.{Engine}
-use Rattle.engine.specs.Abs.{plain, Stands, Sound, Steps}
+use Rattle.engine.specs.Abs.{plain, Sound, Steps}
 use Rattle.runner.specs.Sweeps.{Runs}
 
 after_append : {E : Type 0} (s : Plain E) (xs ys : List Call) → after s (xs ++ ys) ≡ after (after s xs) ys

@@ -1,5 +1,5 @@
 -- A collective as users name it, and its programmes, rounds and messages among a number of ranks.
-use Rattle.std.specs.Prelude.{◌≡◌, ℕ, ◌<◌, ◌≤◌, List, Some, None, Option, ◌≢◌}
+use Rattle.std.specs.Prelude.{ℕ, ◌<◌, ◌≤◌, List, Some, None, Option, ◌≢◌}
 use Rattle.ranks.specs.Ranks.{most_ranks}
 use Rattle.programme.specs.declared.Action.{Action}
 use Rattle.programme.specs.declared.Action.TheVariants.{Send, Take}

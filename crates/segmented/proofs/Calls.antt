@@ -1,17 +1,17 @@
 -- What the layer answers, and what it stands for after each call.
-use Rattle.std.proofs.Common.{◌≡◌, ℕ, zero, suc, ◌+◌, ◌-◌, ◌*◌, ◌/◌, ◌<◌, ◌≤◌, Bool, true, false, cond, not, ◌&&◌, eqb, ltb, leb, ◌⊎◌, List, [], ◌∷◌, ◌++◌, length, get_or, take, drop, is_some, Some, None, Ok, Option, Result, sym, refl, ap, ◌∙◌, subst, inl, inr, arith}
-use Rattle.std.specs.List.{flat_map, AllByRecursion as All}
+use Rattle.std.proofs.Common.{◌≡◌, ℕ, ◌+◌, ◌-◌, ◌/◌, ◌<◌, ◌≤◌, Bool, true, false, cond, eqb, List, ◌++◌, length, get_or, take, drop, is_some, Some, None, Ok, Option, Result, sym, refl, ap, ◌∙◌, subst, arith}
+use Rattle.std.specs.List.{flat_map}
 use Rattle.std.proofs.lemmas.List.{get_or-take, take-take, drop-take}
-use Rattle.std.proofs.lemmas.Bool.{cases_Bool, true≢false, false≢true}
+use Rattle.std.proofs.lemmas.Bool.{true≢false, false≢true}
 use Rattle.ranks.specs.Ranks.{pair_ok}
 use Rattle.transport.specs.Network.{Network, Message, message, nobody, between, waiting, put, with_lists, sent, carried, some_moved, value, refused, done, none, without, oldest, between_reply, send_reply, after_send, carry_reply, after_carry, take-reply, after_take, taken_words, word_count, written, Short}
 use Rattle.transport.specs.Many.{sent_all, carried_all}
-use Rattle.transport.proofs.Replies.{between_good, between_bad, send_bad, send_long, send_full, send_crowded, send_done, after_refused, after_done, after_carry_bad, carry_bad, take-bad, after_take_bad, taken_bad, take_short, after_take_short, taken_short, take_found, after_take_found, taken_found, take_none, after_take_none, taken_none}
+use Rattle.transport.proofs.Replies.{between_good, send_long, send_full, send_crowded, send_done, after_done, take_found, after_take_found, taken_found, take_none, taken_none}
 use Rattle.transport.proofs.Pairs.{pair_positive}
 use Rattle.transport.proofs.Shapes.{layer_pair}
-use Rattle.segmented.specs.Segments.{pieces, block, cut, segments, unpacked, decode, open_network, segmented, Coded, Whole}
-use Rattle.segmented.proofs.Coding.{pieces_some, length-block, unpacked_block}
-use Rattle.segmented.proofs.Layer.{open_is, fits_below, between_is, waiting_is, between_div, waiting_div, sent_above, sent_whole, carried_above, carried_whole, carried_moves, taken_above, taken_whole}
+use Rattle.segmented.specs.Segments.{pieces, block, cut, segments, decode, open_network, segmented, Whole}
+use Rattle.segmented.proofs.Coding.{pieces_some, unpacked_block}
+use Rattle.segmented.proofs.Layer.{open_is, fits_below, between_is, waiting_is, between_div, sent_above, sent_whole, carried_above, carried_whole, carried_moves, taken_above, taken_whole}
 use Rattle.segmented.proofs.Steps.{refused_value}
 use Rattle.segmented.proofs.Takes.{oldest_all, all_without}
 

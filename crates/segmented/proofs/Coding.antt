@@ -1,9 +1,9 @@
 -- Segments put together again give the message.
-use Rattle.std.proofs.Common.{◌≡◌, ℕ, zero, suc, ◌+◌, ◌-◌, ◌*◌, ◌/◌, ◌<◌, ◌≤◌, List, [], ◌∷◌, ◌++◌, length, get_or, take, drop, replicate, sym, refl, ap, ◌∙◌, subst, ap₂, add-zero, suc-mul, mul_comm, zero-mul, arith, take-add}
+use Rattle.std.proofs.Common.{◌≡◌, ℕ, zero, suc, ◌+◌, ◌-◌, ◌*◌, ◌/◌, ◌<◌, ◌≤◌, List, [], ◌∷◌, ◌++◌, length, take, drop, replicate, sym, refl, ap, ◌∙◌, subst, ap₂, suc-mul, mul_comm, zero-mul, arith, take-add}
 use native.Mathlib.Nat.{lt-div-mul-add, mul-div_right}
 use Rattle.std.specs.List.{flat_map, AllByRecursion as All}
-use Rattle.std.proofs.lemmas.List.{length-append, length-replicate, length-take, take_all, take_at, drop_at, drop-drop, append-nil, append_assoc}
-use Rattle.transport.specs.Network.{Network, Message, message, Short}
+use Rattle.std.proofs.lemmas.List.{length-append, length-replicate, take_all, take_at, drop_at, drop-drop}
+use Rattle.transport.specs.Network.{Message, message, Short}
 use Rattle.segmented.specs.Segments.{pieces, block, cut, segments, first_tag, all_words, unpacked, rebuilt, groups, decode, Coded}
 
 pub pieces_enough : (lim : ℕ) → 0 < lim → 8 ≤ pieces lim * lim

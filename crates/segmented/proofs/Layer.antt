@@ -1,19 +1,19 @@
 -- What the layer's network is after a change of the network below.
-use Rattle.std.proofs.Common.{◌≡◌, ℕ, zero, suc, ◌+◌, ◌-◌, ◌*◌, ◌/◌, ◌<◌, ◌≤◌, Bool, true, false, cond, not, ◌&&◌, eqb, ltb, leb, ◌⊎◌, List, [], ◌∷◌, ◌++◌, length, take, drop, Some, None, sym, refl, ap, ◌∙◌, subst, ap₂, inl, inr, mul_comm, add-mul, one-mul, le-div_iff_mul-le, mul-add, arith}
+use Rattle.std.proofs.Common.{◌≡◌, ℕ, zero, suc, ◌+◌, ◌-◌, ◌*◌, ◌/◌, ◌<◌, ◌≤◌, Bool, true, false, cond, ◌&&◌, eqb, ltb, leb, ◌⊎◌, List, [], ◌∷◌, ◌++◌, length, take, drop, sym, refl, ap, ◌∙◌, subst, ap₂, inl, inr, mul_comm, add-mul, one-mul, le-div_iff_mul-le, mul-add, arith}
 use mathlib.Core.Path.{fun_ext}
 use native.Mathlib.Nat.{mul-div_right, zero-div}
 use Rattle.std.specs.List.{flat_map}
 use Rattle.std.proofs.lemmas.List.{append-nil, append_assoc, take_at, drop_at, length-append, length-drop}
 use Rattle.std.proofs.ByRecursion.{All-push}
-use Rattle.std.proofs.lemmas.Bool.{cases_Bool, cases_eq, and_parts, ltb-true, leb-true, ne_eqb, eq-eqb, eqb-true, eqb-false, true≢false}
-use Rattle.transport.specs.Network.{Network, Message, message, between, waiting, put, with_lists, sent, carried, some_moved, value, without, Short, Shaped}
+use Rattle.std.proofs.lemmas.Bool.{cases_Bool, cases_eq, and_parts, ltb-true, leb-true, eqb-true}
+use Rattle.transport.specs.Network.{Network, Message, between, waiting, put, with_lists, sent, carried, some_moved, value, Short, Shaped}
 use Rattle.transport.specs.Many.{sent_all, carried_all}
-use Rattle.ranks.specs.Ranks.{pair_ok, sum_below}
+use Rattle.ranks.specs.Ranks.{sum_below}
 use Rattle.ranks.proofs.Sums.{sum_same, sum-mul}
 use Rattle.transport.proofs.Tables.{put_is, put_here, put_other, put_same}
 use Rattle.transport.proofs.Shapes.{layer_open}
 use Rattle.transport.proofs.Many.{nothing_waits}
-use Rattle.segmented.specs.Segments.{pieces, block, cut, segments, decode, open_network, segmented, usable, new_segmented, Coded, Whole}
+use Rattle.segmented.specs.Segments.{pieces, segments, decode, open_network, segmented, usable, new_segmented, Coded, Whole}
 use Rattle.segmented.proofs.Coding.{pieces_some, length-segments, decode_joined, coded, length-coded}
 
 -- a layer with ranks

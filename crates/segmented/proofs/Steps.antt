@@ -1,7 +1,7 @@
 -- One segment after the other.
-use Rattle.std.proofs.Common.{◌≡◌, ℕ, zero, suc, ◌+◌, ◌-◌, ◌*◌, ◌<◌, ◌≤◌, min, Bool, true, false, List, [], ◌∷◌, ◌++◌, length, take, drop, sym, refl, ap, ◌∙◌, subst, arith}
+use Rattle.std.proofs.Common.{◌≡◌, ℕ, ◌+◌, ◌-◌, ◌*◌, ◌<◌, ◌≤◌, min, true, List, [], ◌∷◌, ◌++◌, length, take, drop, sym, ap, ◌∙◌, subst, arith}
 use Rattle.ranks.specs.Ranks.{pair_ok}
-use Rattle.transport.specs.Network.{Network, Message, message, Reply, refused, done, value, between, waiting, send_reply, after_send, some_moved}
+use Rattle.transport.specs.Network.{Network, Message, message, refused, done, value, between, waiting, send_reply, after_send, some_moved}
 use Rattle.transport.specs.Many.{sent_all}
 use Rattle.transport.proofs.Replies.{send_done, after_done}
 use Rattle.transport.proofs.Many.{sent_one, sent_between, sent_waiting}

@@ -1,7 +1,7 @@
 -- The segments of the oldest message with a tag are taken one after the other.
-use Rattle.std.proofs.Common.{◌≡◌, ℕ, zero, suc, ◌+◌, ◌-◌, ◌*◌, ◌<◌, ◌≤◌, min, Bool, true, false, cond, eqb, ◌⊎◌, List, [], ◌∷◌, ◌++◌, length, take, drop, is_some, Some, None, Option, sym, refl, ap, ◌∙◌, subst, ap₂, inl, inr, suc-mul, add-mul, one-mul, zero-mul, arith, take-add}
+use Rattle.std.proofs.Common.{◌≡◌, ℕ, zero, suc, ◌+◌, ◌-◌, ◌*◌, ◌<◌, ◌≤◌, min, Bool, true, false, cond, eqb, ◌⊎◌, List, [], ◌∷◌, ◌++◌, length, take, drop, is_some, Some, None, Option, sym, refl, ap, ◌∙◌, subst, inl, inr, suc-mul, add-mul, one-mul, zero-mul, arith, take-add}
 use Rattle.std.specs.List.{flat_map, AllByRecursion as All}
-use Rattle.std.proofs.lemmas.List.{drop-drop, append_assoc, drop_all, length-append, length-take, length-drop, take_at}
+use Rattle.std.proofs.lemmas.List.{drop-drop, append_assoc, drop_all, length-take, length-drop, take_at}
 use Rattle.std.proofs.ByRecursion.{All-weaker}
 use Rattle.std.proofs.lemmas.Bool.{cases_Bool, eq-eqb, eqb-true, true≢false}
 use Rattle.ranks.specs.Ranks.{pair_ok}
@@ -11,7 +11,7 @@ use Rattle.transport.proofs.Many.{taken_one}
 use Rattle.transport.proofs.Tables.{put_here}
 use Rattle.transport.proofs.Replies.{without_absent, take_found, taken_found}
 use Rattle.segmented.specs.Segments.{pieces, block, cut, segments, decode, Coded}
-use Rattle.segmented.proofs.Coding.{length-segments, tags_segments, length_cut, length-block}
+use Rattle.segmented.proofs.Coding.{length-segments, tags_segments, length-block}
 
 -- what has other tags is passed over
 module _ (t : ℕ) where

@@ -1,11 +1,11 @@
 -- The layer's network has the shape of a network.
-use Rattle.std.specs.Prelude.{◌≡◌, ℕ, zero, suc, ◌/◌, ◌<◌, ◌≤◌, false, List, [], ◌≢◌, refl}
-use Rattle.std.proofs.Common.{sym, ap, subst, ◌∙◌, arith}
+use Rattle.std.specs.Prelude.{◌≡◌, ℕ, ◌<◌, false, [], ◌≢◌, refl}
+use Rattle.std.proofs.Common.{ap, subst, ◌∙◌, arith}
 use Rattle.std.proofs.Math.Nat.{zero-div}
 use Rattle.ranks.specs.Ranks.{pair_ok}
-use Rattle.transport.specs.Network.{Network, Message, Shaped, Short}
+use Rattle.transport.specs.Network.{Network, Shaped}
 use Rattle.transport.proofs.Shapes.{layer_shaped}
-use Rattle.segmented.specs.Segments.{pieces, decode, groups, open_network, segmented, Coded, Whole}
+use Rattle.segmented.specs.Segments.{pieces, decode, groups, open_network, segmented, Whole}
 
 decode_nil : (k : ℕ) → decode k [] ≡ []
 unfolding decode

@@ -1,13 +1,13 @@
 -- What a log stands for after each call.
-use Rattle.std.proofs.Common.{◌≡◌, ℕ, suc, ◌+◌, ◌-◌, ◌<◌, ◌≤◌, min, Bool, true, false, cond, not, ◌&&◌, leb, ◌⊎◌, List, [], ◌∷◌, ◌++◌, length, get_or, take, drop, set, Some, None, filter, sym, refl, ap, ◌∙◌, subst, ap₂, inl, inr, arith}
+use Rattle.std.proofs.Common.{◌≡◌, ℕ, suc, ◌+◌, ◌-◌, ◌<◌, ◌≤◌, min, Bool, true, false, cond, not, leb, ◌⊎◌, List, [], ◌∷◌, ◌++◌, length, get_or, take, drop, set, Some, filter, sym, refl, ap, ◌∙◌, subst, ap₂, inl, inr, arith}
 use mathlib.Core.Path.{fun_ext}
 use Rattle.std.specs.List.{HoldsAt, remove, AllByRecursion as All}
-use Rattle.std.proofs.lemmas.List.{length-set, length-take, length-take-le, take_more_set, take-set-le, take-append-drop, take_all, set_split, take_at, set-append_left, get_or-take, get_or_default}
+use Rattle.std.proofs.lemmas.List.{length-set, length-take, length-take-le, take_more_set, take-append-drop, take_all, set_split, take_at, set-append_left, get_or-take}
 use Rattle.std.proofs.ByRecursion.{All-push, All-get_or}
 use Rattle.std.proofs.lemmas.List.Sums.{length-filter, count_by-le-length}
 use Rattle.std.proofs.lemmas.Bool.{cases_Bool, and_parts, eqb-true, leb-true, cases_lt, lt-leb, le-leb}
 use Rattle.ranks.specs.Ranks.{most_ranks, pair_ok}
-use Rattle.transport.specs.Network.{Network, Message, message, quiet, put, waiting, between, with_lists, sent, send_reply, after_send, carry_reply, after_carry, done, value, refused, oldest, without, fault_number}
+use Rattle.transport.specs.Network.{Network, message, quiet, put, waiting, between, with_lists, sent, send_reply, after_send, carry_reply, after_carry, done, value, refused, oldest, without, fault_number}
 use Rattle.transport.proofs.Replies.{send_full, send_crowded, send_done, after_done, carry_some, after_carry_some}
 use Rattle.transport.proofs.Passes.{split_at}
 use Rattle.transport.proofs.Stored as stored

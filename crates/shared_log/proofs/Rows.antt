@@ -1,13 +1,12 @@
 -- What a row of records stands for after a send, a carry and a take.
-use Rattle.std.proofs.Common.{◌≡◌, ℕ, zero, suc, ◌+◌, ◌<◌, ◌≤◌, Bool, true, false, cond, not, ◌&&◌, eqb, ltb, leb, ◌⊎◌, List, [], ◌∷◌, ◌++◌, map, length, take, Some, None, filter, Option, sym, refl, ap, ◌∙◌, subst, ap₂, inl, inr, arith}
+use Rattle.std.proofs.Common.{◌≡◌, ℕ, ◌+◌, Bool, true, false, cond, not, ◌&&◌, eqb, ◌⊎◌, List, [], ◌∷◌, ◌++◌, map, length, filter, sym, refl, ap, ◌∙◌, inl, inr, arith}
 use mathlib.Core.Path.{fun_ext}
 use Rattle.std.specs.List.{AllByRecursion as All}
-use Rattle.std.proofs.lemmas.List.{append-nil, append_assoc, map-append, length-append, length-take, length-map}
-use Rattle.std.proofs.lemmas.List.Elements.{filter-append}
-use Rattle.std.proofs.ByRecursion.{All-append, All-weaker, All-map, all_kept_by}
-use Rattle.std.proofs.lemmas.Bool.{cases_Bool, and_parts, and_left, and_right, and_from, eqb-true, eq-eqb, ltb-true, not-true, true≢false}
+use Rattle.std.proofs.lemmas.List.{append-nil}
+use Rattle.std.proofs.ByRecursion.{All-append}
+use Rattle.std.proofs.lemmas.Bool.{cases_Bool, and_parts, and_left, and_right, and_from, eqb-true, eq-eqb, not-true, true≢false}
 use Rattle.ranks.specs.Ranks.{sum_below}
-use Rattle.transport.specs.Network.{Network, Message, put, waiting, between, without}
+use Rattle.transport.specs.Network.{put, waiting, between, without}
 use Rattle.transport.specs.Stored.{listed}
 use Rattle.transport.proofs.Pairs.{pair_parts}
 use Rattle.transport.proofs.Tables.{put_is, sum-entry, sum-tables, sum-entries, sum-nowhere}

@@ -1,5 +1,5 @@
 -- The eight parts of a text, one after the other, are the text.
-use Rattle.std.proofs.Common.{◌≡◌, ℕ, zero, suc, ◌+◌, ◌-◌, ◌*◌, ◌/◌, ◌%◌, ◌<◌, ◌≤◌, min, List, [], ◌++◌, length, get_or, take, drop, fold, sym, refl, ap, ◌∙◌, ap₂, mul-le-mul_left, mul-zero, mul-one, mul-add, add-one, arith, take_all, take-add}
+use Rattle.std.proofs.Common.{◌≡◌, ℕ, zero, suc, ◌+◌, ◌-◌, ◌*◌, ◌/◌, ◌≤◌, List, ◌++◌, length, take, fold, sym, ap, ◌∙◌, ap₂, mul-le-mul_left, mul-zero, mul-one, mul-add, add-one, arith, take_all, take-add}
 use Rattle.std.proofs.lemmas.List.Sums.{fold_more}
 use Rattle.operation.specs.Text.{measured, text_join}
 use Rattle.operation.specs.declared.text.TextElement.{TextElement}

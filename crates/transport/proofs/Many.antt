@@ -1,8 +1,8 @@
 -- Several messages of one pair sent, carried or taken, one after the other.
-use Rattle.std.proofs.Common.{◌≡◌, ℕ, zero, suc, ◌+◌, ◌<◌, ◌≤◌, Bool, true, false, cond, not, ◌&&◌, eqb, ltb, ◌⊎◌, List, [], ◌∷◌, ◌++◌, length, take, drop, Some, sym, refl, ap, ◌∙◌, subst, ap₂, inl, inr, arith, take-add}
+use Rattle.std.proofs.Common.{◌≡◌, ℕ, suc, ◌+◌, ◌≤◌, Bool, true, false, cond, ◌&&◌, eqb, ◌⊎◌, List, [], ◌∷◌, ◌++◌, length, take, drop, Some, sym, refl, ap, ◌∙◌, ap₂, inl, inr, arith, take-add}
 use Rattle.std.proofs.lemmas.List.{append-nil, append_assoc, length-append, drop-drop, nil_from_length}
-use Rattle.std.proofs.lemmas.Bool.{cases_Bool, cases_eq, and_parts, ltb-true, eqb-true, not-true}
-use Rattle.transport.specs.Network.{Network, Message, between, waiting, put, with_lists, sent, carry_reply, after_carry, carried, some_moved, take-reply, after_take, oldest, without, Shaped}
+use Rattle.std.proofs.lemmas.Bool.{cases_Bool}
+use Rattle.transport.specs.Network.{Network, Message, between, waiting, put, with_lists, sent, carry_reply, after_carry, carried, some_moved, after_take, oldest, without, Shaped}
 use Rattle.transport.specs.Many.{sent_all, carried_all, without_n, taken_all}
 use Rattle.ranks.specs.Ranks.{pair_ok, sum_below}
 use Rattle.ranks.proofs.Sums.{sum-zero}

@@ -1,10 +1,9 @@
 -- What each call answers and leaves, case by case.
-use Rattle.std.proofs.Common.{◌≡◌, ℕ, zero, suc, ◌+◌, ◌<◌, ◌≤◌, Bool, true, false, cond, not, ◌&&◌, eqb, ltb, leb, ◌⊎◌, List, [], ◌∷◌, ◌++◌, length, Some, None, Option, sym, refl, ap, ◌∙◌, subst, ap₂, inl, inr, arith}
-use mathlib.Core.Path.{fun_ext}
-use Rattle.std.proofs.lemmas.Bool.{lt-ltb, le-ltb, le-leb, lt-leb, cases_Bool, eqb-true, eq-eqb, and_parts}
+use Rattle.std.proofs.Common.{◌≡◌, ℕ, ◌<◌, ◌≤◌, Bool, true, false, cond, eqb, List, [], ◌∷◌, ◌++◌, length, Some, None, refl, ap, ◌∙◌, arith}
+use Rattle.std.proofs.lemmas.Bool.{lt-ltb, le-ltb, le-leb, lt-leb}
 use Rattle.ranks.specs.Ranks.{pair_ok}
 use Rattle.transport.proofs.Tables.{put_same}
-use Rattle.transport.specs.Network.{Network, Message, Reply, refused, done, none, value, message, between, waiting, put, between_reply, send_reply, sent, after_send, carry_reply, carried, after_carry, some_moved, may_take, take-reply, after_take, taken_words, oldest, without, word_count, written, with_lists}
+use Rattle.transport.specs.Network.{Network, Message, refused, done, none, value, between, waiting, put, between_reply, send_reply, sent, after_send, carry_reply, after_carry, take-reply, after_take, taken_words, oldest, without, word_count, written, with_lists}
 
 module _ (n : Network) (a b : ℕ) where
   pub send_bad : (ws : List ℕ) → pair_ok n.ranks a b ≡ false → send_reply n a b ws ≡ refused 10

@@ -1,6 +1,6 @@
 -- What a transport means: for each ordered pair of ranks the messages under way and those that have arrived, oldest first.
 -- Each call's answer, and the network that it leaves, is a function of the network that it finds and of its arguments.
-use Rattle.std.specs.Prelude.{◌≡◌, ℕ, ◌+◌, ◌≤◌, Bool, true, false, cond, not, ◌&&◌, List, [], ◌∷◌, ◌++◌, length, drop, Some, None, Ok, Err, Option, Result, ◌==◌, nat_le, nat_lt}
+use Rattle.std.specs.Prelude.{◌≡◌, ℕ, ◌+◌, ◌≤◌, Bool, false, cond, not, ◌&&◌, List, [], ◌∷◌, ◌++◌, length, drop, Some, None, Ok, Err, Option, Result, ◌==◌, nat_le, nat_lt}
 use Rattle.std.specs.List.{AllByRecursion as All}
 use Rattle.ranks.specs.Ranks.{most_ranks, pair_ok, sum_below}
 use Rattle.transport.specs.declared.Fault.{Fault}

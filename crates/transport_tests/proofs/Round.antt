@@ -1,5 +1,5 @@
 -- A message that is sent, carried and taken where nothing else waits.
-use Rattle.std.proofs.Common.{◌≡◌, ℕ, ◌≤◌, true, false, cond, eqb, ◌⊎◌, List, [], ◌∷◌, ◌++◌, length, drop, Some, sym, refl, ap, ◌∙◌, ap₂, inl, inr, arith}
+use Rattle.std.proofs.Common.{◌≡◌, ℕ, ◌≤◌, true, false, ◌⊎◌, List, [], ◌∷◌, ◌++◌, length, drop, Some, sym, refl, ap, ◌∙◌, ap₂, inl, inr, arith}
 use Rattle.std.proofs.lemmas.Bool.{cases_Bool, eq-eqb}
 use Rattle.ranks.specs.Ranks.{pair_ok}
 use Rattle.transport.specs.Network.{Network, Message, message, Shaped, waiting, put, with_lists, sent, send_reply, after_send, after_carry, take-reply, after_take, taken_words, word_count, written, oldest, without, refused, done, value}

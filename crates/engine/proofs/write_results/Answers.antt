@@ -1,5 +1,4 @@
-use Rattle.std.proofs.Common.{◌≡◌, ℕ, suc, ◌+◌, ◌*◌, ◌<◌, ◌≤◌, [], ◌∷◌, ◌++◌, length, drop, sym, refl, ap, ◌∙◌, subst, mul-le-mul_right, add-one, arith, rules}
-use Rattle.std.specs.List.{AllByRecursion as All}
+use Rattle.std.proofs.Common.{◌≡◌, ◌+◌, ◌*◌, ◌<◌, ◌≤◌, [], ◌∷◌, ◌++◌, drop, sym, ap, ◌∙◌, subst, mul-le-mul_right, add-one, arith, rules}
 use Rattle.machine.specs.Job.{listed}
 use Rattle.machine.specs.Sound.{Proper}
 use Rattle.machine.proofs.Finish.{length-listed}

@@ -1,4 +1,4 @@
-use Rattle.std.proofs.Common.{◌≡◌, ◌<◌, length, sym, ap, ◌∙◌, arith}
+use Rattle.std.proofs.Common.{◌<◌, length, sym, ap, ◌∙◌, arith}
 use Rattle.mailbox.specs.declared.Slot.{Slot}
 use Rattle.mailbox.specs.Slots.{fits, row, slot_at}
 use Rattle.transport.proofs.Passes.{here, passed, passed_all}

@@ -1,11 +1,10 @@
-use Rattle.std.proofs.Common.{◌≡◌, ℕ, suc, ◌+◌, ◌<◌, ◌≤◌, cond, List, [], ◌∷◌, ◌++◌, sym, refl, ap, ◌∙◌, subst, append-nil, add-one, arith, rules}
+use Rattle.std.proofs.Common.{◌≡◌, ◌+◌, cond, [], ◌∷◌, ◌++◌, sym, ap, ◌∙◌, subst, append-nil, add-one, arith}
 use Rattle.std.proofs.lemmas.Bool.{eq-eqb, ne_eqb}
-use Rattle.machine.specs.Call.{Call, Answer, turn, carry, look}
-use Rattle.machine.specs.Plain.{Plain, step}
-use Rattle.engine.specs.Abs.{plain, Sound}
-use Rattle.engine.specs.Answers.{turn_answer, carry_answer}
-use Rattle.runner.specs.Sweeps.{turns, carries_from, carries, sweep, sweeps, tells_finished, Runs}
-use Rattle.runner.proofs.Running.{runs_none, runs_then, runs_call}
+use Rattle.machine.specs.Call.{carry}
+use Rattle.engine.specs.Abs.{Sound}
+use Rattle.engine.specs.Answers.{carry_answer}
+use Rattle.runner.specs.Sweeps.{carries_from, Runs}
+use Rattle.runner.proofs.Running.{runs_none, runs_call}
 use Rattle.runner.proofs.carry_from.Goals as goal
 use Rattle.runner.proofs.carry_from.Goals.{then-to-from, else-to-from}
 

@@ -1,11 +1,9 @@
-use Rattle.std.proofs.Common.{◌≡◌, ℕ, suc, ◌+◌, ◌<◌, ◌≤◌, cond, List, [], ◌∷◌, ◌++◌, sym, refl, ap, ◌∙◌, subst, append-nil, add-one, arith, rules}
-use Rattle.std.proofs.lemmas.Bool.{eq-eqb, ne_eqb}
-use Rattle.machine.specs.Call.{Call, Answer, turn, carry, look}
-use Rattle.machine.specs.Plain.{Plain, step}
-use Rattle.engine.specs.Abs.{plain, Sound}
-use Rattle.engine.specs.Answers.{turn_answer, carry_answer}
-use Rattle.runner.specs.Sweeps.{turns, carries_from, carries, sweep, sweeps, tells_finished, Runs}
-use Rattle.runner.proofs.Running.{runs_none, runs_then, runs_call}
+use Rattle.std.proofs.Common.{◌≡◌, sym, refl, ap, ◌∙◌, subst, add-one, arith}
+use Rattle.machine.specs.Call.{look}
+use Rattle.machine.specs.Plain.{step}
+use Rattle.engine.specs.Abs.{plain}
+use Rattle.runner.specs.Sweeps.{sweep, sweeps, tells_finished, Runs}
+use Rattle.runner.proofs.Running.{runs_none, runs_then}
 use Rattle.runner.proofs.run.Goals as goal
 
 pub loop-sweeps-init : goal.loop-sweeps-init

@@ -1,4 +1,4 @@
-use Rattle.std.proofs.Common.{◌≡◌, ℕ, ◌+◌, ◌-◌, ◌<◌, drop, sym, ap, ◌∙◌, subst, arith}
+use Rattle.std.proofs.Common.{◌≡◌, ◌+◌, ◌-◌, ◌<◌, drop, sym, ap, ◌∙◌, arith}
 use Rattle.transport.specs.Network.{carry_reply, after_carry, some_moved}
 use Rattle.transport.specs.Many.{carried_all}
 use Rattle.transport.proofs.Many.{carried_reply, carried_one}

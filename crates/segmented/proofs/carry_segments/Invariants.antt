@@ -1,5 +1,5 @@
-use Rattle.std.proofs.Common.{◌≡◌, ◌-◌, ◌<◌, true, drop, Ok}
-use Rattle.transport.specs.Network.{some_moved, value}
+use Rattle.std.proofs.Common.{◌≡◌, ◌-◌, ◌<◌, drop, Ok}
+use Rattle.transport.specs.Network.{some_moved}
 use Rattle.transport.specs.Many.{carried_all}
 use Rattle.transport.specs.Network.{carrying}
 use Rattle.segmented.proofs.carry_segments.Given as goal

@@ -1,4 +1,4 @@
-use Rattle.std.proofs.Common.{◌≡◌, ◌+◌, ◌-◌, ◌/◌, ◌<◌, ap, ◌∙◌, arith}
+use Rattle.std.proofs.Common.{◌≡◌, ◌+◌, ◌-◌, ◌/◌, ap, ◌∙◌, arith}
 use Rattle.segmented.specs.Segments.{pieces}
 use Rattle.segmented.proofs.Coding.{pieces_some}
 use Rattle.segmented.proofs.pieces_over.Goals as goal

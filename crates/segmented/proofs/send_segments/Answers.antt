@@ -1,4 +1,4 @@
-use Rattle.std.proofs.Common.{◌≡◌, ◌-◌, take, drop, sym, ap, ◌∙◌, arith}
+use Rattle.std.proofs.Common.{◌-◌, take, drop, ap, ◌∙◌, arith}
 use Rattle.transport.specs.Network.{message, send_reply, after_send}
 use Rattle.segmented.proofs.Arith.{place_fits}
 use Rattle.segmented.proofs.Steps.{segment_ready, segment_step, refused_done}

@@ -1,4 +1,4 @@
-use Rattle.std.proofs.Common.{refl, arith, rules}
+use Rattle.std.proofs.Common.{refl, arith}
 use Rattle.shared_log.proofs.Gaps.{gap_none, gap_front, gap_rest, gap_all}
 use Rattle.shared_log.proofs.close_gap.Goals as goal
 

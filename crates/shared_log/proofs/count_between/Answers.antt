@@ -1,4 +1,4 @@
-use Rattle.std.proofs.Common.{sym, ap, ◌∙◌, arith}
+use Rattle.std.proofs.Common.{arith}
 use Rattle.shared_log.specs.Records.{of_pair}
 use Rattle.transport.proofs.Passes.{counted_more, counted_all}
 use Rattle.shared_log.proofs.count_between.Goals as goal

@@ -1,4 +1,3 @@
-use Rattle.std.proofs.Common.{sym, ap, ◌∙◌}
 use Rattle.shared_log.specs.Records.{fits}
 use Rattle.transport.proofs.Passes.{here, passed, passed_all}
 use Rattle.shared_log.proofs.oldest.Goals as goal

@@ -1,4 +1,4 @@
-use Rattle.std.proofs.Common.{◌≡◌, ◌≤◌, false, length, take}
+use Rattle.std.proofs.Common.{◌≡◌, false, take}
 use Rattle.std.specs.List.{AllByRecursion as All}
 use Rattle.shared_log.specs.Records.{fits}
 use Rattle.shared_log.proofs.oldest.Given as goal

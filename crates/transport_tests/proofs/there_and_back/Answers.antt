@@ -1,4 +1,4 @@
-use Rattle.std.proofs.Common.{◌≡◌, length, refl, ap, ◌∙◌}
+use Rattle.std.proofs.Common.{length, ap, ◌∙◌}
 use Rattle.transport.specs.Network.{take-reply, taken_words, after_take, after_carry}
 use Rattle.transport_tests.proofs.Round.{back_answer, back_words, back_after}
 use Rattle.transport_tests.proofs.there_and_back.Goals as goal

@@ -10,7 +10,7 @@ returns g c = record {
         comes_to g.O.Operation.meaning g.T.Transport.meaning g.T.Transport.sound c.args.engine.now c.complete-result.new.engine c.args.job c.args.inputs.now
         c.args.out.now c.args.sweeps net m stands new c.complete-result.new.out c.complete-result.result c.complete-result.ensures.answered
         c.complete-result.ensures.refused c.complete-result.ensures.did;
-    status_is = c.status-of.ensures;
-    report_is = c.report-of.ensures;
+    status_is = c.status_of.ensures;
+    report_is = c.report_of.ensures;
   };
 }

@@ -1,4 +1,4 @@
-use Rattle.std.proofs.Common.{◌≡◌, sym, ap, ◌∙◌}
+use Rattle.std.proofs.Common.{sym, ap, ◌∙◌}
 use Rattle.engine_parts.specs.Clearing.{delivered}
 use Rattle.engine_parts.proofs.Carries.{delivered_carried, delivered_done, carried_done, none_in}
 use Rattle.engine_parts.proofs.clearing.carry_all.Goals as goal

@@ -1,4 +1,4 @@
-use Rattle.std.proofs.Common.{◌≡◌, ◌+◌, sym, ap, ◌∙◌}
+use Rattle.std.proofs.Common.{◌+◌, sym, ap, ◌∙◌}
 use Rattle.engine_parts.specs.Clearing.{cleared, one_pair, row_below}
 use Rattle.engine_parts.proofs.Clears.{cleared_none, cleared_join, row_none, row_next, row_apart}
 use Rattle.engine_parts.proofs.clearing.clear_row.Goals as goal

@@ -1,4 +1,4 @@
-use Rattle.std.proofs.Common.{◌≡◌, ◌<◌, length, sym, ap, ◌∙◌, subst, arith}
+use Rattle.std.proofs.Common.{◌<◌, length, sym, ap, ◌∙◌, subst}
 use Rattle.engine_parts.specs.Clearing.{purged, tagged}
 use Rattle.engine_parts.proofs.Purges.{purged_taken, purged_done, taken_done, taken_fewer, none_some}
 use Rattle.engine_parts.proofs.clearing.take_all.Goals as goal

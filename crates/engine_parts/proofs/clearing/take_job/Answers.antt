@@ -1,6 +1,6 @@
-use Rattle.std.proofs.Common.{◌≡◌, ◌+◌, ◌*◌, sym, ap, ◌∙◌, arith}
-use Rattle.engine_parts.specs.Clearing.{purged, tagged, labelled, of_job}
-use Rattle.engine_parts.proofs.Purges.{purged_purged, purged_nothing, purged_same, label_next, label_none, label_all}
+use Rattle.std.proofs.Common.{◌+◌, ◌*◌, sym, ap, ◌∙◌, arith}
+use Rattle.engine_parts.specs.Clearing.{purged, tagged, labelled}
+use Rattle.engine_parts.proofs.Purges.{purged_purged, purged_nothing, label_next, label_none}
 use Rattle.engine_parts.proofs.clearing.take_job.Goals as goal
 
 pub loop-label-init : goal.loop-label-init

@@ -1,6 +1,6 @@
-use Rattle.std.proofs.Common.{◌≡◌, ◌+◌, ◌*◌, ◌<◌, ◌≤◌, length, replicate, sym, ap, ◌∙◌, subst, arith}
+use Rattle.std.proofs.Common.{◌+◌, ◌*◌, ◌≤◌, sym, subst, arith}
 use Rattle.std.proofs.lemmas.Result.{err_from_is_err_and}
-use Rattle.engine_parts.proofs.Blocks.{Reading, within, reading_none, reading_more, reading_refused, reading_all}
+use Rattle.engine_parts.proofs.Blocks.{within, reading_more, reading_refused, reading_all}
 use Rattle.engine_parts.proofs.inputs.read_inputs.Goals as goal
 
 pub read_block-requires : goal.read_block-requires

@@ -1,4 +1,4 @@
-use Rattle.std.proofs.Common.{◌≡◌, ◌*◌, ap, ◌∙◌}
+use Rattle.std.proofs.Common.{◌*◌, ap}
 use Rattle.engine_parts.proofs.Blocks.{block_written}
 use Rattle.engine_parts.proofs.outputs.write_block.Goals as goal
 

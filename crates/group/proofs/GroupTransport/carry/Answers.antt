@@ -1,4 +1,4 @@
-use Rattle.std.proofs.Common.{◌≡◌, ℕ, ◌<◌, false, length, get_or, sym, refl, ap, ◌∙◌, subst, arith}
+use Rattle.std.proofs.Common.{ℕ, false, get_or, sym, refl, ap, ◌∙◌, subst}
 use Rattle.transport.specs.Network.{carry_reply, after_carry}
 use Rattle.transport.proofs.Replies.{carry_bad, after_carry_bad}
 use Rattle.transport.proofs.Pairs.{pair_positive}

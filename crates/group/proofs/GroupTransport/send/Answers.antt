@@ -1,4 +1,4 @@
-use Rattle.std.proofs.Common.{◌≡◌, ℕ, ◌<◌, false, length, get_or, sym, refl, ap, ◌∙◌, subst, arith}
+use Rattle.std.proofs.Common.{ℕ, false, get_or, sym, refl, ap, ◌∙◌, subst}
 use Rattle.transport.specs.Network.{message, send_reply, after_send}
 use Rattle.transport.proofs.Replies.{send_bad, after_refused}
 use Rattle.transport.proofs.Pairs.{pair_positive}

@@ -1,4 +1,4 @@
-use Rattle.std.proofs.Common.{◌≡◌, ℕ, ◌<◌, false, length, get_or, sym, refl, ap, ◌∙◌, subst, arith}
+use Rattle.std.proofs.Common.{ℕ, false, length, get_or, sym, refl, ap, ◌∙◌, subst}
 use Rattle.transport.specs.Network.{take-reply, after_take, taken_words}
 use Rattle.transport.proofs.Replies.{take-bad, after_take_bad, taken_bad}
 use Rattle.transport.proofs.Pairs.{pair_positive}

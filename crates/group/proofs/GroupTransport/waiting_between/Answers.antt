@@ -1,4 +1,4 @@
-use Rattle.std.proofs.Common.{◌≡◌, ℕ, ◌<◌, false, length, get_or, sym, refl, ap, ◌∙◌, subst, arith}
+use Rattle.std.proofs.Common.{ℕ, false, sym, refl, ap, ◌∙◌}
 use Rattle.transport.specs.Network.{between_reply}
 use Rattle.transport.proofs.Replies.{between_bad}
 use Rattle.transport.proofs.Pairs.{pair_positive}

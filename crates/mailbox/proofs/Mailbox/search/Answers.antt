@@ -1,4 +1,4 @@
-use Rattle.std.proofs.Common.{◌≡◌, sym, arith}
+use Rattle.std.proofs.Common.{arith}
 use Rattle.mailbox.proofs.Calls.{within}
 use Rattle.mailbox.proofs.Mailbox.search.Goals as goal
 

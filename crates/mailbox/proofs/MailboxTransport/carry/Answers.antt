@@ -1,4 +1,4 @@
-use Rattle.std.proofs.Common.{◌≡◌, ℕ, ◌+◌, ◌<◌, ◌≤◌, true, sym, refl, ap, ◌∙◌, subst, arith}
+use Rattle.std.proofs.Common.{◌≡◌, ℕ, ◌+◌, ◌<◌, ◌≤◌, true, sym, ap, ◌∙◌, subst, arith}
 use Rattle.transport.proofs.Replies.{carry_bad, after_carry_bad, carry_none, after_carry_none}
 use Rattle.mailbox.specs.declared.Slot.{Slot}
 use Rattle.mailbox.specs.Slots.{message_of, slot_at, base, is_under}

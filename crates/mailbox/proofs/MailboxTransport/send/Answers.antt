@@ -1,5 +1,5 @@
-use Rattle.std.proofs.Common.{◌≡◌, ℕ, ◌+◌, ◌<◌, ◌≤◌, length, sym, refl, ap, ◌∙◌, subst, arith}
-use Rattle.transport.specs.Network.{message, between, sent}
+use Rattle.std.proofs.Common.{◌≡◌, ℕ, ◌+◌, sym, ap, ◌∙◌, arith}
+use Rattle.transport.specs.Network.{message, sent}
 use Rattle.transport.proofs.Replies.{send_bad, send_long, send_full, send_crowded, send_done, after_refused, after_done}
 use Rattle.mailbox.specs.Slots.{slot_at, base}
 use Rattle.mailbox.specs.Matrix.{mailbox_meaning}

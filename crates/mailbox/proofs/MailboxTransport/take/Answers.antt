@@ -1,4 +1,4 @@
-use Rattle.std.proofs.Common.{◌≡◌, ℕ, ◌+◌, ◌-◌, ◌<◌, ◌≤◌, true, Some, sym, refl, ap, ◌∙◌, subst, arith}
+use Rattle.std.proofs.Common.{◌≡◌, ℕ, ◌+◌, ◌-◌, ◌<◌, ◌≤◌, true, Some, sym, ap, ◌∙◌, subst, arith}
 use Rattle.transport.specs.Network.{value, word_count, written, oldest}
 use Rattle.transport.proofs.Replies.{take-bad, after_take_bad, taken_bad, take_short, after_take_short, taken_short, take_none, after_take_none, taken_none, take_found, after_take_found, taken_found}
 use Rattle.mailbox.specs.declared.Slot.{Slot}

@@ -1,4 +1,4 @@
-use Rattle.std.proofs.Common.{◌≡◌, sym, ap, ◌∙◌}
+use Rattle.std.proofs.Common.{sym, ap, ◌∙◌}
 use Rattle.transport.specs.Network.{value}
 use Rattle.transport.proofs.Replies.{between_bad, between_good}
 use Rattle.mailbox.specs.Matrix.{mailbox_meaning}

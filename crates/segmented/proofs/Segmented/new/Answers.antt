@@ -1,4 +1,4 @@
-use Rattle.std.proofs.Common.{◌≡◌, ℕ, sym, refl, ap, ◌∙◌, subst}
+use Rattle.std.proofs.Common.{ℕ, sym, refl, ap, ◌∙◌, subst}
 use Rattle.segmented.specs.Segments.{segmented, Whole}
 use Rattle.segmented.proofs.Layer.{new_is, new_whole}
 use Rattle.segmented.proofs.Segmented.new.Goals as goal

@@ -1,4 +1,4 @@
-use Rattle.std.proofs.Common.{◌≡◌, false, length, sym, refl, ap, ◌∙◌}
+use Rattle.std.proofs.Common.{false, length, sym, refl, ap, ◌∙◌}
 use Rattle.transport.specs.Network.{message}
 use Rattle.transport.proofs.Replies.{send_bad, after_refused}
 use Rattle.segmented.specs.Segments.{pieces, open_network, segmented}

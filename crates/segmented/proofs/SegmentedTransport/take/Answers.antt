@@ -1,9 +1,9 @@
-use Rattle.std.proofs.Common.{◌≡◌, ◌<◌, ◌≤◌, true, false, ◌++◌, length, drop, sym, refl, ap, ◌∙◌, subst, ap₂, arith}
+use Rattle.std.proofs.Common.{◌<◌, ◌≤◌, true, false, ◌++◌, length, drop, sym, refl, ap, ◌∙◌, ap₂, arith}
 use Rattle.transport.specs.Network.{oldest, value}
 use Rattle.transport.proofs.Replies.{take-bad, after_take_bad, taken_bad, take_short, after_take_short, taken_short}
 use Rattle.segmented.specs.Segments.{pieces, decode, open_network, segmented}
 use Rattle.transport.proofs.Shapes.{layer_pair}
-use Rattle.segmented.proofs.Calls.{limit_is, pair_below, limit_some, ok_same, found_none, found_some, held_length, held_words, layer_absent, layer_unwritten, layer_count, layer_words, layer_short, layer_taken, layer_taken_whole}
+use Rattle.segmented.proofs.Calls.{limit_is, ok_same, found_none, found_some, held_length, held_words, layer_absent, layer_unwritten, layer_count, layer_words, layer_short, layer_taken, layer_taken_whole}
 use Rattle.segmented.proofs.SegmentedTransport.take.Goals as goal
 
 pub returns-then-not-is_pair : goal.returns-then-not-is_pair

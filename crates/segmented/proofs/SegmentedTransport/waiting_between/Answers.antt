@@ -1,4 +1,4 @@
-use Rattle.std.proofs.Common.{◌≡◌, false, sym, refl, ap, ◌∙◌}
+use Rattle.std.proofs.Common.{false, sym, refl}
 use Rattle.transport.proofs.Replies.{between_bad}
 use Rattle.segmented.specs.Segments.{pieces, open_network, segmented}
 use Rattle.transport.proofs.Shapes.{layer_pair}

@@ -1,4 +1,4 @@
-use Rattle.std.proofs.Common.{take, sym, ap, ◌∙◌}
+use Rattle.std.proofs.Common.{sym}
 use Rattle.transport.proofs.Replies.{carry_bad, after_carry_bad, carry_none, after_carry_none}
 use Rattle.transport.proofs.Stored.{listed_none}
 use Rattle.shared_log.specs.Records.{log_meaning, message_of, is_under}

@@ -1,4 +1,4 @@
-use Rattle.std.proofs.Common.{take, sym, ap, ◌∙◌}
+use Rattle.std.proofs.Common.{sym, ap, ◌∙◌}
 use Rattle.transport.proofs.Replies.{take-bad, after_take_bad, taken_bad, take_short, after_take_short, taken_short, take_none, after_take_none, taken_none, take_found, after_take_found, taken_found}
 use Rattle.transport.specs.Network.{value, word_count, written}
 use Rattle.shared_log.proofs.Calls.{blank, log_good_in, log_oldest_in, log_after_take, log_take_sound}

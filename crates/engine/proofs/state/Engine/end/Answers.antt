@@ -1,4 +1,4 @@
-use Rattle.std.proofs.Common.{◌≡◌, ℕ, ◌+◌, ◌*◌, ◌<◌, ◌≤◌, length, sym, refl, ap, ◌∙◌, subst, ap₂, mul-le-mul_right, arith, rules}
+use Rattle.std.proofs.Common.{◌≡◌, ◌*◌, ◌<◌, ◌≤◌, length, sym, refl, ap, ◌∙◌, subst, ap₂, mul-le-mul_right, arith, rules}
 use Rattle.machine.specs.Plain.{end, ended, refused, no_job, unfinished, too_few_words}
 use Rattle.jobs.specs.Tables.{pending_jobs, result_count}
 use Rattle.engine.specs.Abs.{with_jobs, AmongRanks}

@@ -1,7 +1,5 @@
-use Rattle.std.proofs.Common.{◌≡◌, ℕ, ◌+◌, ◌-◌, ◌<◌, ◌≤◌, Bool, ltb, [], length, sym, refl, ap, ◌∙◌, ap₂, inl, inr, arith, rules}
-use Rattle.std.proofs.lemmas.Bool.{cases_lt, lt-ltb, le-ltb}
+use Rattle.std.proofs.Common.{◌+◌, ltb, [], ap, ◌∙◌, ap₂, arith, rules}
 use Rattle.schedule.specs.Collective.{messages_of}
-use Rattle.jobs.specs.Tables.{pending_jobs, messages_in}
 use Rattle.engine.proofs.Starting.{too_deep, room_tells, messages_fit}
 use Rattle.engine.proofs.state.Engine.is_crowded.Goals as goal
 

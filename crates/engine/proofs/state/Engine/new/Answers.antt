@@ -1,6 +1,5 @@
-use Rattle.std.proofs.Common.{◌≡◌, sym, refl, ap, ◌∙◌, subst}
+use Rattle.std.proofs.Common.{sym, ap, subst}
 use Rattle.machine.specs.Operation.{Lawful}
-use Rattle.machine.specs.Plain.{made}
 use Rattle.machine.specs.Sound.{Good}
 use Rattle.machine.proofs.Reachable.{made_good}
 use Rattle.machine.proofs.Records.{record_laws}

@@ -1,8 +1,7 @@
-use Rattle.std.proofs.Common.{◌≡◌, ℕ, ◌+◌, ◌<◌, ◌≤◌, max, List, ◌∷◌, sym, refl, ap, ◌∙◌, subst, ap₂, arith, rules}
+use Rattle.std.proofs.Common.{◌≡◌, ℕ, ◌+◌, ◌∷◌, sym, refl, ap, ◌∙◌, subst, ap₂, arith, rules}
 use Rattle.programme.specs.declared.Action.TheVariants.{Send}
-use Rattle.machine.specs.Plain.{turn, sent, tag_of}
-use Rattle.transport.specs.Network.{message, sending, done, send_reply, after_send}
-use Rattle.jobs.specs.declared.job.RankState.{RankState}
+use Rattle.machine.specs.Plain.{turn, sent}
+use Rattle.transport.specs.Network.{message, send_reply, after_send}
 use Rattle.jobs.specs.Tables.{pending_jobs, with_sent}
 use Rattle.jobs.specs.Updates.{update}
 use Rattle.engine.specs.Abs.{AmongRanks}

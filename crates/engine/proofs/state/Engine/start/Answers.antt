@@ -1,8 +1,8 @@
-use Rattle.std.proofs.Common.{◌≡◌, ℕ, ◌+◌, ◌*◌, ◌<◌, ◌≤◌, [], ◌∷◌, ◌++◌, length, Ok, Err, sym, refl, ap, ◌∙◌, subst, ap₂, mul-le-mul_right, arith, rules}
+use Rattle.std.proofs.Common.{◌≡◌, ◌+◌, ◌*◌, ◌<◌, ◌≤◌, [], ◌∷◌, ◌++◌, length, Ok, sym, refl, ap, ◌∙◌, ap₂, mul-le-mul_right, arith, rules}
 use Rattle.std.proofs.lemmas.Option.{MatchOption-at_none}
 use Rattle.std.proofs.lemmas.Result.{err_from_is_err_and}
 use Rattle.schedule.specs.Collective.{kind_of, root_of, Allowed}
-use Rattle.machine.specs.Plain.{start, started, refused, unfit, bad_root, bad_length, bad_block, four_pending, crowded, numbers_spent, crowds}
+use Rattle.machine.specs.Plain.{start, started, refused, unfit, bad_root, bad_length, four_pending, crowded, numbers_spent, crowds}
 use Rattle.machine.proofs.Keep.{width_fits}
 use Rattle.engine_parts.specs.Inputs.{padded, inputs_of, blocks_read}
 use Rattle.jobs.specs.Tables.{pending_jobs, first_job}

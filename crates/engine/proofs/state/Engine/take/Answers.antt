@@ -1,8 +1,8 @@
-use Rattle.std.proofs.Common.{◌≡◌, ℕ, ◌+◌, ◌<◌, ◌≤◌, max, List, [], ◌∷◌, ◌++◌, take, set, sym, refl, ap, ◌∙◌, subst, ap₂, arith, rules}
+use Rattle.std.proofs.Common.{◌≡◌, ◌+◌, [], ◌∷◌, ◌++◌, take, set, sym, refl, ap, ◌∙◌, subst, rules}
 use Rattle.programme.specs.declared.Merge.TheVariants.{Keep}
 use Rattle.programme.specs.declared.Action.TheVariants.{Take}
-use Rattle.machine.specs.Plain.{turn, took, waits, tag_of}
-use Rattle.jobs.specs.Tables.{pending_jobs, with_received, kept_after}
+use Rattle.machine.specs.Plain.{turn, took, waits}
+use Rattle.jobs.specs.Tables.{pending_jobs, with_received}
 use Rattle.jobs.specs.Updates.{update}
 use Rattle.engine.specs.Abs.{AmongRanks, state_taken, with_jobs}
 use Rattle.engine.proofs.Onward.{onward}

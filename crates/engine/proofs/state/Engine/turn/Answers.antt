@@ -1,4 +1,4 @@
-use Rattle.std.proofs.Common.{◌≡◌, ℕ, ◌+◌, ◌<◌, ◌≤◌, Some, sym, refl, ap, ◌∙◌, arith, rules}
+use Rattle.std.proofs.Common.{◌<◌, Some, sym, refl, ap, ◌∙◌, arith, rules}
 use Rattle.programme.specs.declared.Action.TheVariants.{Send, Take}
 use Rattle.machine.specs.Plain.{turn, sent, took, waits, through, refused, no_job, bad_rank}
 use Rattle.std.proofs.lemmas.Bool.{ltb-true, ltb-false}

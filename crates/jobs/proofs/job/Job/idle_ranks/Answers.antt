@@ -1,4 +1,4 @@
-use Rattle.std.proofs.Common.{◌≡◌, ℕ, ◌+◌, ◌≤◌, true, false, cond, sym, refl, ap, ◌∙◌, add-one, arith}
+use Rattle.std.proofs.Common.{◌≡◌, ℕ, cond, sym, ap, ◌∙◌, add-one, arith}
 use Rattle.jobs.specs.Tables.{idle_below, idle_at}
 use Rattle.jobs.proofs.job.Job.idle_ranks.Goals as goal
 use Rattle.jobs.proofs.job.Job.idle_ranks.Goals.{then-is_idle, else-is_idle}

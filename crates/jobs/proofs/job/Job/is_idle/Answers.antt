@@ -1,4 +1,4 @@
-use Rattle.std.proofs.Common.{◌≡◌, leb, ap₂}
+use Rattle.std.proofs.Common.{leb, ap₂}
 use Rattle.jobs.proofs.job.Job.is_idle.Goals as goal
 
 pub returns : goal.returns

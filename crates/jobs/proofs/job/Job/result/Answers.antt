@@ -1,4 +1,4 @@
-use Rattle.std.proofs.Common.{◌≡◌, sym, ap, ◌∙◌, ⊎_elim}
+use Rattle.std.proofs.Common.{sym, ap, ◌∙◌, ⊎_elim}
 use Rattle.jobs.specs.Tables.{result_in}
 use Rattle.jobs.proofs.job.Job.result.Goals as goal
 

@@ -1,4 +1,4 @@
-use Rattle.std.proofs.Common.{◌≡◌, ℕ, refl, ap, ◌∙◌, add-one, arith}
+use Rattle.std.proofs.Common.{◌≡◌, ap, ◌∙◌, add-one, arith}
 use Rattle.ranks.specs.Ranks.{greatest_below}
 use Rattle.jobs.specs.Tables.{arrival_at}
 use Rattle.jobs.proofs.job.Job.rounds.Goals as goal

@@ -1,4 +1,4 @@
-use Rattle.std.proofs.Common.{◌≡◌, sym, ap, ◌∙◌, rules}
+use Rattle.std.proofs.Common.{sym, rules}
 use Rattle.jobs.proofs.States.{state_at}
 use Rattle.jobs.proofs.job.Job.state.Goals as goal
 

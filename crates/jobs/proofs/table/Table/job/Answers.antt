@@ -1,4 +1,4 @@
-use Rattle.std.proofs.Common.{◌≡◌, ◌<◌, length, get_or, take, sym, ◌∙◌, subst, arith, get_or-take}
+use Rattle.std.proofs.Common.{◌<◌, sym, ◌∙◌, arith, get_or-take}
 use Rattle.std.proofs.lemmas.List.{get_or_default}
 use Rattle.jobs.proofs.Sizes.{pending_size}
 use Rattle.jobs.proofs.table.Table.job.Goals as goal

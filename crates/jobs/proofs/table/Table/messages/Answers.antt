@@ -1,4 +1,4 @@
-use Rattle.std.proofs.Common.{◌≡◌, ℕ, suc, ◌+◌, ◌<◌, ◌≤◌, List, [], ◌∷◌, length, get_or, take, drop, sym, refl, ap, ◌∙◌, add-one, arith, drop-cons, get_or-take}
+use Rattle.std.proofs.Common.{◌≡◌, ℕ, suc, ◌+◌, ◌<◌, get_or, drop, sym, ap, ◌∙◌, add-one, arith, drop-cons, get_or-take}
 use Rattle.std.proofs.lemmas.List.{drop_all}
 use Rattle.schedule.specs.Collective.{messages_of}
 use Rattle.jobs.specs.declared.job.Job.{Job}

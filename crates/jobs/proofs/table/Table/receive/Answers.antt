@@ -1,6 +1,6 @@
-use Rattle.std.proofs.Common.{◌≡◌, ◌+◌, ◌<◌, [], ◌∷◌, ◌++◌, get_or, take, set, sym, ap, ◌∙◌, subst, arith, get_or-take}
+use Rattle.std.proofs.Common.{◌≡◌, ◌+◌, ◌<◌, [], ◌∷◌, ◌++◌, take, set, sym, ap, ◌∙◌, subst, arith, get_or-take}
 use Rattle.std.proofs.lemmas.List.{get_or_default}
-use Rattle.jobs.specs.Tables.{with_received, pending_jobs}
+use Rattle.jobs.specs.Tables.{with_received}
 use Rattle.jobs.proofs.Lists.{set-update, take-update}
 use Rattle.jobs.proofs.Sizes.{pending_size}
 use Rattle.jobs.proofs.table.Table.receive.Goals as goal

@@ -1,4 +1,4 @@
-use Rattle.std.proofs.Common.{◌≡◌, ◌-◌, ◌<◌}
+use Rattle.std.proofs.Common.{◌≡◌}
 use Rattle.jobs.proofs.Shifts.{shifted}
 use Rattle.jobs.proofs.table.Table.remove.Given as goal
 

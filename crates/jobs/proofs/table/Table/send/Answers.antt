@@ -1,5 +1,4 @@
-use Rattle.std.proofs.Common.{◌+◌, ◌^◌, ◌<◌, get_or, take, set, sym, ap, ◌∙◌, subst, arith, get_or-take, rules}
-use Rattle.std.proofs.lemmas.List.{get_or_default}
+use Rattle.std.proofs.Common.{◌+◌, ◌^◌, ◌<◌, take, set, ap, ◌∙◌, subst, arith, get_or-take, rules}
 use Rattle.jobs.specs.Tables.{with_sent}
 use Rattle.jobs.proofs.Lists.{set-update, take-update}
 use Rattle.jobs.proofs.Sizes.{pending_size}

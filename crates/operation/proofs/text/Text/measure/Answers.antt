@@ -1,4 +1,4 @@
-use Rattle.std.proofs.Common.{◌≡◌, refl, ap, ◌∙◌, ap₂, arith, take_all}
+use Rattle.std.proofs.Common.{refl, ap, ◌∙◌, ap₂, arith, take_all}
 use Rattle.operation.specs.Text.{measured, text_join}
 use Rattle.operation.proofs.Measured.{measured_next, measured_append}
 use Rattle.operation.proofs.Runs.{words_are_runs}
