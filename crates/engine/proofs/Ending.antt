@@ -1,7 +1,7 @@
 -- An end, of the job at a token's place.
 use Rattle.std.proofs.Common.{◌≡◌, ℕ, ◌*◌, ◌<◌, ◌≤◌, true, List, map, length, get_or, Some, None, sym, ap, ◌∙◌, subst, arith}
 use mathlib.Core.Option.{some}
-use Rattle.std.specs.List.{remove, AllByRecursion as All}
+use Rattle.std.specs.List.{remove, AllByRecursion}
 use Rattle.std.proofs.lemmas.List.{get_or_default}
 use Rattle.std.proofs.lemmas.Bool.{eq-eqb, ne_eqb, lt-ltb, le-ltb}
 use Rattle.ranks.specs.Ranks.{most_ranks, greatest_below}
@@ -112,14 +112,14 @@ module _ {O T E : Type 0} (op : O → Meaning E) (net : T → Network) (sound : 
             ap (λ n. listed (result_at j d) (result_count c n)) ranks_are
             ∙ results_are m j d p (job_of j).ranks job_right.ranks_all c job_right.root_within (held d) whole
 
-        all_proper : All (Proper m) (outcome m (kind_of c) (root_of c) (job_of j).ranks)
+        all_proper : AllByRecursion (Proper m) (outcome m (kind_of c) (root_of c) (job_of j).ranks)
         all_proper =
             outcome_proper m j some_state p (job_of j).ranks job_right.ranks_all
             (λ r below. (job_right.rank_sound r below).value_proper) (λ r below. (job_right.rank_sound r below).prefix_proper) (λ r below. (job_right.rank_sound r below).kept_proper)
             c job_right.root_within
 
-        pub results_proper : (d : RankState E) → All (Proper m) (listed (result_at j d) (result_count c j.schedule.ranks))
-        results_proper d = subst (All (Proper m)) (sym (results d)) all_proper
+        pub results_proper : (d : RankState E) → AllByRecursion (Proper m) (listed (result_at j d) (result_count c j.schedule.ranks))
+        results_proper d = subst (AllByRecursion (Proper m)) (sym (results d)) all_proper
 
         answer_length : length (answer_words s (job_of j)) ≡ result_count c j.schedule.ranks * m.width
         answer_length =

@@ -1,6 +1,6 @@
 -- What a finished job gives, element by element.
 use Rattle.std.proofs.Common.{◌≡◌, ℕ, zero, suc, ◌+◌, ◌-◌, ◌<◌, ◌≤◌, eqb, List, [], ◌∷◌, ◌++◌, map, length, get_or, take, drop, sym, refl, ap, ◌∙◌, subst, inl, inr, arith, length-append, length-drop, length-take}
-use Rattle.std.specs.List.{AllByRecursion as All}
+use Rattle.std.specs.List.{AllByRecursion}
 use Rattle.std.proofs.ByRecursion.{All-get_or, All-from_get_or, All-append, All-push, All-take, All-drop, All-map}
 use Rattle.std.proofs.lemmas.List.{same_lists, get_or_default, get_or-map, get_or-take, get_or-drop, get_or_append_left, get_or-append_right, length-map}
 use Rattle.std.proofs.lemmas.Bool.{lt-ltb, le-ltb, eq-eqb, ne_eqb, cases_order, cond-true}
@@ -23,11 +23,11 @@ listed_map g f xs a h =
     let low : k < length xs = omega (arith, length-listed f (length xs)) in
     get_d_listed f (length xs) k d low ∙ h k low ∙ sym (get_or-map g xs k a d low))
 
-pub all_listed : {A : Type 0} (P : A → Type 0) (f : ℕ → A) (n : ℕ) → ((i : ℕ) → i < n → P (f i)) → All P (listed f n)
+pub all_listed : {A : Type 0} (P : A → Type 0) (f : ℕ → A) (n : ℕ) → ((i : ℕ) → i < n → P (f i)) → AllByRecursion P (listed f n)
 all_listed P f zero h = tt
 all_listed P f (suc n) h = All-push P (listed f n) (f n) (all_listed P f n (λ i lt. h i (omega arith))) (h n (omega arith))
 
-pub listed_at : {A : Type 0} (P : A → Type 0) (f : ℕ → A) (n : ℕ) → All P (listed f n) → (i : ℕ) → i < n → P (f i)
+pub listed_at : {A : Type 0} (P : A → Type 0) (f : ℕ → A) (n : ℕ) → AllByRecursion P (listed f n) → (i : ℕ) → i < n → P (f i)
 listed_at P f n all i lt = subst P (get_d_listed f n i (f i) lt) (All-get_or P (listed f n) i (f i) (omega (arith, length-listed f n)) all)
 
 -- an element put into a list
@@ -132,11 +132,11 @@ module _ {E : Type 0} (m : Meaning E) (j : Job E) (d : RankState E) (p : ℕ) (r
       ∙ listed_map (λ x. x.prefix) (λ i. (get_or (states j) i d).prefix) ranks u (λ i h. sym (ap (λ x. x.prefix) (at i (omega (arith, many)))))
   results_are Allreduce low at whole = by_value Allreduce at
 
-  module _ (values : (r : ℕ) → r < p → Proper m (get_or ranks r u).value) (prefixes : (r : ℕ) → r < p → Proper m (get_or ranks r u).prefix) (keeps : (r : ℕ) → r < p → All (Proper m) (get_or ranks r u).kept) where
-    all_values : All (Proper m) (map (λ x. x.value) ranks)
+  module _ (values : (r : ℕ) → r < p → Proper m (get_or ranks r u).value) (prefixes : (r : ℕ) → r < p → Proper m (get_or ranks r u).prefix) (keeps : (r : ℕ) → r < p → AllByRecursion (Proper m) (get_or ranks r u).kept) where
+    all_values : AllByRecursion (Proper m) (map (λ x. x.value) ranks)
     all_values = All-map (Proper m) (λ x. x.value) ranks (All-from_get_or (λ x. Proper m x.value) ranks u (λ i h. values i (omega (arith, many))))
 
-    pub outcome_proper : (c : Collective) → root_of c < p → All (Proper m) (outcome m (kind_of c) (root_of c) ranks)
+    pub outcome_proper : (c : Collective) → root_of c < p → AllByRecursion (Proper m) (outcome m (kind_of c) (root_of c) ranks)
     outcome_proper (Broadcast root) low = all_values
     outcome_proper (Gather root) low =
         let ks : List E = (get_or ranks root u).kept in

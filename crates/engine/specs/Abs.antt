@@ -1,6 +1,6 @@
 -- The plain machine that an engine stands for, and the sound engines.
 use Rattle.std.specs.Prelude.{◌≡◌, ℕ, ◌+◌, ◌^◌, ◌<◌, max, cond, List, map, get_or, Some, None, Option, ◌==◌, slice_index_or}
-use Rattle.std.specs.List.{AllByRecursion as All, slice_get}
+use Rattle.std.specs.List.{AllByRecursion, slice_get}
 use Rattle.programme.specs.declared.Action.{Action}
 use Rattle.programme.specs.declared.Merge.{Merge}
 use Rattle.programme.specs.Rank.{merged_value, merged_prefix}
@@ -22,7 +22,7 @@ with_jobs name m origin net started jobs = record { name = name; meaning = m; or
 
 -- every schedule is for that many ranks
 abbrev pub AmongRanks : {E : Type 0} → ℕ → List (Job E) → Type 0
-AmongRanks p jobs = All (λ j. j.schedule.ranks ≡ p) jobs
+AmongRanks p jobs = AllByRecursion (λ j. j.schedule.ranks ≡ p) jobs
 
 -- the state of a rank after a take
 abbrev pub state_taken : {E : Type 0} → (E → E → E) → Merge → Mail E → RankState E → RankState E

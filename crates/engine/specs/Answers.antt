@@ -1,4 +1,4 @@
--- Each answer of a call as the plain machine gives it; the machine's `number_of_lem` gives each refusal its number.
+-- Each answer of a call as the plain machine gives it; the machine's `number_of` gives each refusal its number.
 use Rattle.std.specs.Prelude.{◌≡◌, ℕ, Bool, cond, List, Ok, Err, Result}
 use Rattle.transport.specs.declared.Fault.{Fault}
 use Rattle.machine.specs.Plain.{Answer, Refusal, started, sent, took, waits, through, carried, looked, ended, abandoned, refused, bad_pair, unfit, bad_root, bad_length, bad_block, four_pending, crowded, numbers_spent, no_job, bad_rank, unfinished, too_few_words}

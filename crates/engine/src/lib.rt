@@ -2,7 +2,7 @@
 #![tactic(auto)]
 
 ghost use Rattle.std.specs.Prelude.{◌≡◌, ◌+◌, ◌*◌, ◌^◌, ◌<◌, ◌≤◌, max, length, if◌then◌else◌, ◌==◌, nat_lt};
-ghost use Rattle.std.specs.List.{AllByRecursion as All};
+ghost use Rattle.std.specs.List.{AllByRecursion};
 ghost use Rattle.programme.specs.declared.Action.TheVariants.{Send, Take};
 ghost use Rattle.schedule.specs.Collective.{kind_of, root_of};
 ghost use Rattle.machine.specs.Plain.{fit, crowds, tag_of, made, start, turn, sent, took, waits, carry, look, end, abandon};
@@ -355,7 +355,7 @@ fn overfills(messages: usize, pending: usize, room: usize) -> bool
 // Writes the blocks of what a finished job gives to the front of the lent words.
 fn write_results<O: Operation>(operation: &O, job: &Job<O::Element>, words: &mut [u32])
     requires narrow { (O.Operation.meaning operation.now).width ≤ 6 }
-    requires proper { (d : RankState O.Element) → All (Proper (O.Operation.meaning operation.now)) (listed (result_at job.now d) (result_count job.now.schedule.collective job.now.schedule.ranks)) }
+    requires proper { (d : RankState O.Element) → AllByRecursion (Proper (O.Operation.meaning operation.now)) (listed (result_at job.now d) (result_count job.now.schedule.collective job.now.schedule.ranks)) }
     requires room { result_count job.now.schedule.collective job.now.schedule.ranks * (O.Operation.meaning operation.now).width ≤ length words.old }
     ensures { (d : RankState O.Element) → words.new ≡ written (packed (O.Operation.meaning operation.now) (listed (result_at job.now d) (result_count job.now.schedule.collective job.now.schedule.ranks))) words.old }
 {

@@ -2,7 +2,7 @@
 use Rattle.std.proofs.Common.{◌≡◌, ℕ, suc, ◌+◌, ◌-◌, ◌*◌, ◌<◌, ◌≤◌, true, List, [], ◌∷◌, ◌++◌, map, length, take, drop, set, replicate, Ok, Err, Result, sym, refl, ap, ◌∙◌, ap₂, append_assoc, append-nil, mul-le-mul_right, zero-mul, arith, length-drop}
 use borrow.Rule.Slice.PartMut.{put_mid}
 use lib.Seq.{take-append_seam, drop-append-add}
-use Rattle.std.specs.List.{AllByRecursion as All}
+use Rattle.std.specs.List.{AllByRecursion}
 use Rattle.std.proofs.lemmas.List.{take_more_set, take-append-drop, drop-drop, drop-set-lt, drop-replicate, length-set, flat_map_more}
 use Rattle.operation.specs.Meaning.{Meaning, Packing, written as written_front}
 use Rattle.operation.specs.declared.fault.BlockFault.{BlockFault}
@@ -118,7 +118,7 @@ module _ {E : Type 0} (m : Meaning E) (packing : Packing m) where
       ∙ ap (λ r. m.pack x ++ r) (drop-drop (length (m.pack x)) start ws ∙ ap (λ i. drop i ws) end))
 
   -- one block more behind those in front
-  pub packed_push : (xs : List E) → All (λ y. m.proper y ≡ true) xs → (x : E) (i : ℕ) → length xs ≡ i → (ws : List ℕ)
+  pub packed_push : (xs : List E) → AllByRecursion (λ y. m.proper y ≡ true) xs → (x : E) (i : ℕ) → length xs ≡ i → (ws : List ℕ)
       → block_over m x i (packed m xs ++ drop (i * m.width) ws) ≡ packed m (xs ++ (x ∷ [])) ++ drop ((i + 1) * m.width) ws
   unfolding block_over
   packed_push xs all x i long ws =
@@ -135,7 +135,7 @@ module _ {E : Type 0} (m : Meaning E) (packing : Packing m) where
   pub packed_none : (ws : List ℕ) → ws ≡ packed m [] ++ drop (0 * m.width) ws
   packed_none ws = ap (λ k. drop k ws) (sym (zero-mul m.width))
 
-  pub packed_all : (xs : List E) → All (λ y. m.proper y ≡ true) xs → (i : ℕ) → length xs ≡ i → (ws : List ℕ) → packed m xs ++ drop (i * m.width) ws ≡ written (packed m xs) ws
+  pub packed_all : (xs : List E) → AllByRecursion (λ y. m.proper y ≡ true) xs → (i : ℕ) → length xs ≡ i → (ws : List ℕ) → packed m xs ++ drop (i * m.width) ws ≡ written (packed m xs) ws
   packed_all xs all i long ws = ap (λ k. packed m xs ++ drop k ws) (sym (length-packed m packing xs all ∙ ap (λ k. k * m.width) long))
 
 -- what the inputs tell of the blocks --

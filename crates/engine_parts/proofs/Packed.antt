@@ -1,6 +1,6 @@
 -- How long the blocks of proper elements are.
 use Rattle.std.proofs.Common.{◌≡◌, ℕ, suc, ◌+◌, ◌*◌, true, List, [], ◌∷◌, length, sym, ap, ◌∙◌, ap₂, add-mul, one-mul, zero-mul, arith, length-append}
-use Rattle.std.specs.List.{AllByRecursion as All}
+use Rattle.std.specs.List.{AllByRecursion}
 use Rattle.operation.specs.Meaning.{Meaning, Packing}
 use Rattle.engine_parts.specs.Outputs.{packed}
 
@@ -12,7 +12,7 @@ module _ {E : Type 0} (m : Meaning E) (packing : Packing m) where
   pub length-block : (x : E) → m.proper x ≡ true → length (m.pack x) ≡ m.width
   length-block x proper = packing.pack_length x proper
 
-  pub length-packed : (xs : List E) → All (λ x. m.proper x ≡ true) xs → length (packed m xs) ≡ length xs * m.width
+  pub length-packed : (xs : List E) → AllByRecursion (λ x. m.proper x ≡ true) xs → length (packed m xs) ≡ length xs * m.width
   length-packed [] all = sym (zero-mul m.width)
   length-packed (x ∷ xs) all =
       length-append (m.pack x) (packed m xs)

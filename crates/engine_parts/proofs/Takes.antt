@@ -1,6 +1,6 @@
 -- What a take tells of the oldest message.
 use Rattle.std.proofs.Common.{◌≡◌, ℕ, ◌+◌, ◌-◌, ◌≤◌, Bool, true, false, cond, eqb, List, [], ◌∷◌, ◌++◌, length, get_or, take, drop, is_some, Some, None, Ok, Option, sym, refl, ap, ◌∙◌, ap₂, arith, take_all}
-use Rattle.std.specs.List.{AllByRecursion as All}
+use Rattle.std.specs.List.{AllByRecursion}
 use lib.Seq.{take-append-le}
 use Rattle.operation.specs.Meaning.{Meaning, Packing}
 use Rattle.transport.specs.Network.{Network, Message, value, none, refused, taking, word_count, oldest, take-reply, taken_words, written, Shaped}
@@ -80,7 +80,7 @@ pub enough : (most : ℕ) (n : Network) → Shaped most n → n.limit ≤ 8
 enough most n s = omega (arith, s.limited, s.low)
 
 -- where every message with a tag was sent by a rank, so was the oldest
-pub legible_all : {E : Type 0} (m : Meaning E) (t : ℕ) (ms : List Message) → All (λ x. eqb x.tag t ≡ true → Sent m x.words) ms → Legible m (oldest t ms)
+pub legible_all : {E : Type 0} (m : Meaning E) (t : ℕ) (ms : List Message) → AllByRecursion (λ x. eqb x.tag t ≡ true → Sent m x.words) ms → Legible m (oldest t ms)
 legible_all m t [] h = tt
 legible_all m t (x ∷ ms) h = by (eqb x.tag t) refl h.0 (legible_all m t ms h.1)
   where

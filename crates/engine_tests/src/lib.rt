@@ -198,9 +198,9 @@ fn show_to_another<O: Operation, T: Transport>(
     words: &mut [u32],
 ) -> Option<(Shown, Result<(), UnknownJob>)>
     requires sound { Sound O.Operation.meaning T.Transport.meaning T.Transport.sound engine.old }
-    requires sound_2 { Sound O.Operation.meaning T.Transport.meaning T.Transport.sound other.old }
-    ensures sound_3 { Sound O.Operation.meaning T.Transport.meaning T.Transport.sound engine.new }
-    ensures sound_4 { Sound O.Operation.meaning T.Transport.meaning T.Transport.sound other.new }
+    requires other_sound { Sound O.Operation.meaning T.Transport.meaning T.Transport.sound other.old }
+    ensures sound { Sound O.Operation.meaning T.Transport.meaning T.Transport.sound engine.new }
+    ensures other_sound { Sound O.Operation.meaning T.Transport.meaning T.Transport.sound other.new }
 {
     let (mine, _) = begin(other, Collective::Scan, inputs);
     let (slot, _) = begin(engine, Collective::Scan, inputs);

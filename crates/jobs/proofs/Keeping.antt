@@ -2,7 +2,7 @@
 use Rattle.std.proofs.Common.{◌≡◌, ℕ, zero, suc, ◌+◌, ◌-◌, ◌*◌, ◌/◌, ◌%◌, ◌^◌, ◌<◌, ◌≤◌, Bool, true, false, cond, not, ◌&&◌, eqb, ltb, leb, List, [], ◌∷◌, ◌++◌, length, sym, refl, ◌∙◌, subst, arith, length-append}
 use mathlib.Core.Option.{some}
 use lib.ListN.{get_elem?}
-use Rattle.std.specs.List.{AllByRecursion as All}
+use Rattle.std.specs.List.{AllByRecursion}
 use Rattle.std.proofs.lemmas.Bool.{ne_eqb, eqb-true}
 use Rattle.programme.specs.Levels.{levels, floor_log, surplus}
 use Rattle.programme.specs.Label.{hand_in, hand_back, deliver, collect}
@@ -25,7 +25,7 @@ is_keep (Take from label After) = false
 is_keep (Take from label Prefix) = false
 
 abbrev Only : Bool → List Action → Type 0
-Only b l = All (λ a. is_keep a ≡ b) l
+Only b l = AllByRecursion (λ a. is_keep a ≡ b) l
 
 only_append : (b : Bool) (xs ys : List Action) → Only b xs → Only b ys → Only b (xs ++ ys)
 only_append b [] ys h k = k
@@ -111,7 +111,7 @@ each collective.Scan p r = only_steps false (scan_step Before p r) (levels p) (s
 each collective.Exscan p r = only_steps false (scan_step Prefix p r) (levels p) (scans Prefix (λ _ _. refl) p r)
 each collective.Allreduce p r = allreduces p r
 
-at_place : (P : Action → Type 0) (l : List Action) (i : ℕ) (a : Action) → All P l → get_elem? l i ≡ some a → P a
+at_place : (P : Action → Type 0) (l : List Action) (i : ℕ) (a : Action) → AllByRecursion P l → get_elem? l i ≡ some a → P a
 at_place P [] i a h e = let z : ◌≡◌ {A = ℕ} 0 1 = cc in absurd (omega arith)
 at_place P (x ∷ l) zero a h e = let s : x ≡ a = cc in subst P s h.0
 at_place P (x ∷ l) (suc i) a h e = at_place P l i a h.1 e

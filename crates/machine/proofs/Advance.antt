@@ -2,7 +2,7 @@
 use Rattle.std.proofs.Common.{◌≡◌, ℕ, ◌+◌, ◌<◌, cond, eqb, List, [], ◌∷◌, ◌++◌, get_or, take, set, filter, sym, refl, ap, ◌∙◌, subst, inl, inr, arith}
 use mathlib.Core.Option.{some}
 use lib.ListN.{get_elem?}
-use Rattle.std.specs.List.{AllByRecursion as All}
+use Rattle.std.specs.List.{AllByRecursion}
 use Rattle.std.proofs.lemmas.Bool.{ne_eqb, eq-eqb, cases_eq}
 use Rattle.std.proofs.lemmas.List.{get_or-set_same, get_or-set_other}
 use Rattle.std.proofs.ByRecursion.{All-append}
@@ -60,8 +60,8 @@ module _ {E : Type 0} {m : Meaning E} where
     flight = λ a b. flight_same _ _ _ _ (w a b) (w' a b) refl refl (ew a b) (h.flight a b);
   }
 
-  pub merge_proper : Lawful m → (merge : Merge) (mail : Mail E) (x : Rank E) → Proper m mail.value → Proper m x.value → Proper m x.prefix → All (Proper m) x.kept
-      → (Proper m (after_take m.join merge mail x).value) × Proper m (after_take m.join merge mail x).prefix × All (Proper m) (after_take m.join merge mail x).kept
+  pub merge_proper : Lawful m → (merge : Merge) (mail : Mail E) (x : Rank E) → Proper m mail.value → Proper m x.value → Proper m x.prefix → AllByRecursion (Proper m) x.kept
+      → (Proper m (after_take m.join merge mail x).value) × Proper m (after_take m.join merge mail x).prefix × AllByRecursion (Proper m) (after_take m.join merge mail x).kept
   merge_proper l Replace mail x t v e k = (t, e, k)
   merge_proper l Keep mail x t v e k = (v, e, All-append (Proper m) x.kept (mail.value ∷ []) k (t, tt))
   merge_proper l Before mail x t v e k = (l.monoid.join_proper _ _ t v, e, k)
@@ -140,7 +140,7 @@ module _ {E : Type 0} {m : Meaning E} where
     abbrev after : ℕ → List Action → Rank E
     after q = state m.join p (actions p job) (λ i. fresh m.unit (get_or job.inputs i m.unit)) h.plan.mail q
 
-    pub ranks_new : Proper m is.value → Proper m is.prefix → All (Proper m) is.kept → (q : ℕ) → q < p → RankSound m (actions p job q) (after q) (rank_of m new q)
+    pub ranks_new : Proper m is.value → Proper m is.prefix → AllByRecursion (Proper m) is.kept → (q : ℕ) → q < p → RankSound m (actions p job q) (after q) (rank_of m new q)
     ranks_new v e k q within =
         elim (cases_eq q r) [
           | inl f ↦

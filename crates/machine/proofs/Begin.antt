@@ -2,7 +2,7 @@
 use Rattle.std.proofs.Common.{◌≡◌, ℕ, zero, suc, ◌+◌, ◌*◌, ◌/◌, ◌<◌, ◌≤◌, Bool, true, false, ltb, leb, List, [], ◌∷◌, ◌++◌, map, length, get_or, take, drop, filter, sym, refl, ap, ◌∙◌, subst, inl, inr, arith, length-append}
 use mathlib.Core.Option.{Option, none, some}
 use lib.ListN.{length-map, get_or-map}
-use Rattle.std.specs.List.{AllByRecursion as All}
+use Rattle.std.specs.List.{AllByRecursion}
 use Rattle.std.proofs.lemmas.Bool.{eqb-true, ltb-true, ltb-false, leb-false, cases_Bool, and_parts, or_parts, not-false}
 use Rattle.std.proofs.ByRecursion.{All-weaker, All-append, All-get_or}
 use Rattle.std.proofs.lemmas.List.{map-append}
@@ -39,20 +39,20 @@ empty_list : (l : List Message) → length l ≡ 0 → l ≡ []
 empty_list [] e = refl
 empty_list (x ∷ l) e = absurd (omega arith)
 
-pub started_above : (k n : ℕ) (ks : List ℕ) → All (λ i. i ≤ k) ks → Among n ks → n ≤ k
+pub started_above : (k n : ℕ) (ks : List ℕ) → AllByRecursion (λ i. i ≤ k) ks → Among n ks → n ≤ k
 started_above k n (i ∷ ks) h (inl e) = omega (arith, h.0)
 started_above k n (i ∷ ks) h (inr t) = started_above k n ks h.1 t
 started_above k n [] h t = absurd t
 
 module _ {E : Type 0} where
   all_read : (m : Meaning E) → Lawful m → m.width ≤ 6 → (r : ℕ) (bs : List (List ℕ)) → block_refusal r (map m.unpack bs) ≡ none
-      → All (Proper m) (elements (map m.unpack bs)) × (length (elements (map m.unpack bs)) ≡ length bs)
+      → AllByRecursion (Proper m) (elements (map m.unpack bs)) × (length (elements (map m.unpack bs)) ≡ length bs)
   all_read m lawful narrow r [] e = (tt, refl)
   all_read m lawful narrow r (b ∷ bs) e = go (λ f. all_read m lawful narrow (suc r) bs f) (m.unpack b) refl e
     where
-      go : (block_refusal (suc r) (map m.unpack bs) ≡ none → All (Proper m) (elements (map m.unpack bs)) × (length (elements (map m.unpack bs)) ≡ length bs))
+      go : (block_refusal (suc r) (map m.unpack bs) ≡ none → AllByRecursion (Proper m) (elements (map m.unpack bs)) × (length (elements (map m.unpack bs)) ≡ length bs))
           → (u : Result E BlockFault) → m.unpack b ≡ u → block_refusal r (u ∷ map m.unpack bs) ≡ none
-          → All (Proper m) (elements (u ∷ map m.unpack bs)) × (length (elements (u ∷ map m.unpack bs)) ≡ suc (length bs))
+          → AllByRecursion (Proper m) (elements (u ∷ map m.unpack bs)) × (length (elements (u ∷ map m.unpack bs)) ≡ suc (length bs))
       go rest (Ok x) g f = (((lawful.packing narrow).unpack_proper b x g, (rest f).0), ap suc (rest f).1)
       go rest (Err q) g f = let z : ◌≡◌ {A = ℕ} 0 1 = cc in absurd (omega arith)
 
@@ -90,7 +90,7 @@ module _ {E : Type 0} where
 
   -- the inputs of a job that is started
   pub inputs_read : (s : Plain E) → Lawful s.meaning → (kind : Kind) (root : ℕ) (words : List ℕ) → Starts s kind root words
-      → All (Proper s.meaning) (elements (blocks_read s words)) × (length (elements (blocks_read s words)) ≡ s.now.ranks)
+      → AllByRecursion (Proper s.meaning) (elements (blocks_read s words)) × (length (elements (blocks_read s words)) ≡ s.now.ranks)
   inputs_read s lawful kind root words h =
       let bs : List (List ℕ) = blocks s.meaning.width s.now.ranks words in
       let read = all_read s.meaning lawful (width_fits s h.fitting) 0 bs h.blocks_right in
@@ -99,7 +99,7 @@ module _ {E : Type 0} where
   pub new_rank : (m : Meaning E) (inputs : List E) (job : Job E) → job.ranks ≡ map (fresh m.unit) inputs → (r : ℕ) → rank_of m job r ≡ fresh m.unit (get_or inputs r m.unit)
   new_rank m inputs job e r = ap (λ l. get_or l r (fresh m.unit m.unit)) e ∙ get_or-map (fresh m.unit) inputs r m.unit
 
-  job_sound : (m : Meaning E) → Lawful m → (p number : ℕ) (w : ℕ → ℕ → List Message) (kind : Kind) (root : ℕ) (inputs : List E) → root < p → length inputs ≡ p → All (Proper m) inputs
+  job_sound : (m : Meaning E) → Lawful m → (p number : ℕ) (w : ℕ → ℕ → List Message) (kind : Kind) (root : ℕ) (inputs : List E) → root < p → length inputs ≡ p → AllByRecursion (Proper m) inputs
       → Plan m kind p root inputs
       → ((a b : ℕ) → filter (of_job number) (w a b) ≡ [])
       → JobSound m p w (record { number = number; kind = kind; root = root; inputs = inputs; ranks = map (fresh m.unit) inputs; sent = 0 })
@@ -162,7 +162,7 @@ module _ {E : Type 0} where
           tt,
         );
         waiting_known = λ f a b.
-            subst (λ ks. All (λ x. Among (x.tag / 16) ks) (waiting s.now a b)) (sym pushed)
+            subst (λ ks. AllByRecursion (λ x. Among (x.tag / 16) ks) (waiting s.now a b)) (sym pushed)
             (All-weaker (λ x. Among (x.tag / 16) (numbers s.jobs)) (λ x. Among (x.tag / 16) (numbers s.jobs ++ ((s.started + 1) ∷ [])))
             (λ x t. push_among (s.started + 1) (x.tag / 16) (numbers s.jobs) t) (waiting s.now a b) (h.waiting_known f a b));
       }

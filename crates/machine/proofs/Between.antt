@@ -1,7 +1,7 @@
 -- What waits between two ranks after a send, a take, a carry and an abandoned job.
 use Rattle.std.proofs.Common.{◌≡◌, ℕ, ◌/◌, Bool, true, false, cond, not, ◌&&◌, eqb, List, [], ◌∷◌, ◌++◌, length, filter, sym, refl, ap, ◌∙◌, subst, ap₂, inl, inr, append_assoc, append-nil, arith, length-append}
 use mathlib.Core.Path.{fun_ext}
-use Rattle.std.specs.List.{AllByRecursion as All}
+use Rattle.std.specs.List.{AllByRecursion}
 use Rattle.std.proofs.lemmas.Bool.{ne_eqb, eqb-true, cases_Bool, and_parts}
 use Rattle.std.proofs.lemmas.List.Elements.{filter-append}
 use Rattle.std.proofs.ByRecursion.{All-append}
@@ -80,7 +80,7 @@ pub abandoned_others : (k n : ℕ) (net : Network) → (k ≡ n → ⊥) → (a 
 abandoned_others k n net other a b =
     ap (filter (of_job k)) (append-nil (filter (λ msg. not (of_job n msg)) (waiting net a b))) ∙ kept_others k n (waiting net a b) other
 
-all_without : (P : Message → Type 0) (tag : ℕ) (l u : List Message) → All P (l ++ u) → All P (without tag l ++ u)
+all_without : (P : Message → Type 0) (tag : ℕ) (l u : List Message) → AllByRecursion P (l ++ u) → AllByRecursion P (without tag l ++ u)
 all_without P tag [] u h = h
 all_without P tag (x ∷ l) u h =
     elim (cases_Bool (eqb x.tag tag)) [
@@ -88,17 +88,17 @@ all_without P tag (x ∷ l) u h =
       | inr e ↦ rw e (h.0, all_without P tag l u h.1)
     ]
 
-pub taken_all : (P : Message → Type 0) (from r tag : ℕ) (net : Network) (a b : ℕ) → All P (waiting net a b) → All P (waiting (with_taken from r tag net) a b)
-taken_all P from r tag net a b h = subst (All P) (sym (waiting_taken from r tag net a b)) (either (eqb a from && eqb b r))
+pub taken_all : (P : Message → Type 0) (from r tag : ℕ) (net : Network) (a b : ℕ) → AllByRecursion P (waiting net a b) → AllByRecursion P (waiting (with_taken from r tag net) a b)
+taken_all P from r tag net a b h = subst (AllByRecursion P) (sym (waiting_taken from r tag net a b)) (either (eqb a from && eqb b r))
   where
-    either : (t : Bool) → All P (cond t (without tag (net.arrived a b)) (net.arrived a b) ++ net.under a b)
+    either : (t : Bool) → AllByRecursion P (cond t (without tag (net.arrived a b)) (net.arrived a b) ++ net.under a b)
     either true = all_without P tag (net.arrived a b) (net.under a b) h
     either false = h
 
-pub sent_all : (P : Message → Type 0) (r to : ℕ) (msg : Message) (net : Network) (a b : ℕ) → P msg → All P (waiting net a b) → All P (waiting (with_sent r to msg net) a b)
-sent_all P r to msg net a b new h = subst (All P) (sym (waiting_sent r to msg net a b)) (All-append P (waiting net a b) (cond (eqb a r && eqb b to) (msg ∷ []) []) h (either (eqb a r && eqb b to)))
+pub sent_all : (P : Message → Type 0) (r to : ℕ) (msg : Message) (net : Network) (a b : ℕ) → P msg → AllByRecursion P (waiting net a b) → AllByRecursion P (waiting (with_sent r to msg net) a b)
+sent_all P r to msg net a b new h = subst (AllByRecursion P) (sym (waiting_sent r to msg net a b)) (All-append P (waiting net a b) (cond (eqb a r && eqb b to) (msg ∷ []) []) h (either (eqb a r && eqb b to)))
   where
-    either : (t : Bool) → All P (cond t (msg ∷ []) [])
+    either : (t : Bool) → AllByRecursion P (cond t (msg ∷ []) [])
     either true = (new, tt)
     either false = tt
 

@@ -3,7 +3,7 @@ use Rattle.std.proofs.Common.{◌≡◌, ℕ, zero, suc, ◌+◌, ◌-◌, ◌/�
 use mathlib.Core.List.{append_cancel_left, head-eq_of_cons-eq, nil≢cons}
 use mathlib.Core.Option.{some}
 use lib.ListN.{get_elem?, length-replicate}
-use Rattle.std.specs.List.{AllByRecursion as All}
+use Rattle.std.specs.List.{AllByRecursion}
 use Rattle.std.proofs.lemmas.Bool.{ne_eqb, eq-eqb, eqb-false, lt-ltb, leb-true, cases_Bool, cases_lt, and_parts, and_from, not_from_false}
 use Rattle.programme.specs.declared.Action.{Action}
 use Rattle.programme.specs.declared.Action.TheVariants.{Send, Take}
@@ -71,11 +71,11 @@ over f [] = 0
 over f (k ∷ jobs) = f k + over f jobs
 
 module _ {E : Type 0} where
-  over_le : (f g : Job E → ℕ) (P : Job E → Type 0) (jobs : List (Job E)) → All P jobs → ((k : Job E) → P k → f k ≤ g k) → over f jobs ≤ over g jobs
+  over_le : (f g : Job E → ℕ) (P : Job E → Type 0) (jobs : List (Job E)) → AllByRecursion P jobs → ((k : Job E) → P k → f k ≤ g k) → over f jobs ≤ over g jobs
   over_le f g P [] h le = omega arith
   over_le f g P (k ∷ jobs) h le = omega (arith, le k h.0, over_le f g P jobs h.1 le)
 
-  over_lt : (f g : Job E → ℕ) (P : Job E → Type 0) (n : ℕ) (jobs : List (Job E)) (job : Job E) → numbered n jobs ≡ some job → All P jobs → ((k : Job E) → P k → f k ≤ g k) → f job < g job → over f jobs < over g jobs
+  over_lt : (f g : Job E → ℕ) (P : Job E → Type 0) (n : ℕ) (jobs : List (Job E)) (job : Job E) → numbered n jobs ≡ some job → AllByRecursion P jobs → ((k : Job E) → P k → f k ≤ g k) → f job < g job → over f jobs < over g jobs
   over_lt f g P n [] job e h le lt = let z : ◌≡◌ {A = ℕ} 0 1 = cc in absurd (omega arith)
   over_lt f g P n (k ∷ jobs) job e h le lt =
       elim (cases_Bool (eqb k.number n)) [
@@ -118,7 +118,7 @@ module _ {E : Type 0} where
   mine n (k ∷ jobs) (inr h) = omega (arith, mine n jobs h)
   mine n [] h = absurd h
 
-  pub all_counted : (jobs : List (Job E)) (ws : List Message) → All (λ x. Among (x.tag / 16) (numbers jobs)) ws → length ws ≤ over (λ k. length (filter (of_job k.number) ws)) jobs
+  pub all_counted : (jobs : List (Job E)) (ws : List Message) → AllByRecursion (λ x. Among (x.tag / 16) (numbers jobs)) ws → length ws ≤ over (λ k. length (filter (of_job k.number) ws)) jobs
   all_counted jobs [] h = omega arith
   all_counted jobs (x ∷ ws) h =
       let split : over (λ k. length (filter (of_job k.number) (x ∷ ws))) jobs ≡ over (λ k. cond (eqb (x.tag / 16) k.number) 1 0) jobs + over (λ k. length (filter (of_job k.number) ws)) jobs

@@ -1,7 +1,7 @@
 -- A job taken out, ended or abandoned, leaves a machine sound; what a finished job has come to.
 use Rattle.std.proofs.Common.{◌≡◌, ℕ, zero, suc, ◌-◌, ◌/◌, ◌<◌, ◌≤◌, true, not, eqb, leb, List, [], ◌∷◌, length, get_or, take, filter, sym, refl, ap, ◌∙◌, subst, inl, inr, append-nil, arith, length-append, take_all}
 use mathlib.Core.Option.{Option, none, some}
-use Rattle.std.specs.List.{AllByRecursion as All}
+use Rattle.std.specs.List.{AllByRecursion}
 use Rattle.std.proofs.lemmas.Bool.{eqb-true, eqb-false, leb-true, cases_Bool, cases_lt, not-false}
 use Rattle.std.proofs.ByRecursion.{all_kept_by}
 use Rattle.std.proofs.lemmas.List.{get_or_past, ext_get_or, get_or_append_left, get_or_push}
@@ -23,12 +23,12 @@ use Rattle.machine.proofs.Jobs.{found, shown_found, without_all, without_numbers
 use Rattle.ranks.proofs.Sums.{all_ones, sum_same, greatest_same}
 use Rattle.machine.proofs.Begin.{refusals_none, when_none}
 
-both : (P Q R : Message → Type 0) → ((x : Message) → P x → Q x → R x) → (l : List Message) → All P l → All Q l → All R l
+both : (P Q R : Message → Type 0) → ((x : Message) → P x → Q x → R x) → (l : List Message) → AllByRecursion P l → AllByRecursion Q l → AllByRecursion R l
 both P Q R f [] p q = tt
 both P Q R f (x ∷ l) p q = (f x p.0 q.0, both P Q R f l p.1 q.1)
 
 -- the messages that are not of a job
-not_of : (P Q : Message → Type 0) (n : ℕ) → ((x : Message) → (x.tag / 16 ≡ n → ⊥) → P x → Q x) → (l : List Message) → All P l → All Q (filter (λ x. not (of_job n x)) l)
+not_of : (P Q : Message → Type 0) (n : ℕ) → ((x : Message) → (x.tag / 16 ≡ n → ⊥) → P x → Q x) → (l : List Message) → AllByRecursion P l → AllByRecursion Q (filter (λ x. not (of_job n x)) l)
 not_of P Q n f [] h = tt
 not_of P Q n f (x ∷ l) h =
     elim (cases_Bool (of_job n x)) [
@@ -54,7 +54,7 @@ module _ {E : Type 0} where
   dropped : (s : Plain E) → Sound s → (n : ℕ) (net : Network)
       → net.ranks ≡ s.now.ranks → net.depth ≡ s.now.depth → net.room ≡ s.now.room → net.limit ≡ s.now.limit
       → ((k : Job E) → (k.number ≡ n → ⊥) → JobSound s.meaning s.now.ranks (waiting s.now) k → JobSound s.meaning net.ranks (waiting net) k)
-      → (fit s ≡ true → (a b : ℕ) → All (λ x. Among (x.tag / 16) (filter (λ i. not (eqb i n)) (numbers s.jobs))) (waiting net a b))
+      → (fit s ≡ true → (a b : ℕ) → AllByRecursion (λ x. Among (x.tag / 16) (filter (λ i. not (eqb i n)) (numbers s.jobs))) (waiting net a b))
       → Sound (without_job n s net)
   dropped s h n net er ed em el kept known =
       let fewer = without_length n s.jobs in
@@ -74,7 +74,7 @@ module _ {E : Type 0} where
         pending_depth = omega (arith, h.pending_depth);
         pending_room = omega (arith, without_messages p n s.jobs, ap (λ q. messages_pending q jobs) er, h.pending_room);
         jobs_sound = without_all (JobSound s.meaning p (waiting s.now)) (JobSound s.meaning net.ranks (waiting net)) n s.jobs kept h.jobs_sound;
-        waiting_known = λ f a b. subst (λ ks. All (λ x. Among (x.tag / 16) ks) (waiting net a b)) (sym same) (known f a b);
+        waiting_known = λ f a b. subst (λ ks. AllByRecursion (λ x. Among (x.tag / 16) ks) (waiting net a b)) (sym same) (known f a b);
       }
 
   pub abandon_sound : (s : Plain E) → Sound s → (o : Option (Job E)) → Sound (after_abandon s o).1

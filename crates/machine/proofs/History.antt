@@ -2,7 +2,7 @@
 use Rattle.std.proofs.Common.{◌≡◌, ℕ, suc, ◌+◌, ◌*◌, ◌<◌, ◌≤◌, Bool, true, false, cond, not, eqb, ◌⊎◌, List, [], ◌∷◌, ◌++◌, map, length, get_or, take, sym, refl, ap, ◌∙◌, subst, ap₂, inl, inr, ⊎_elim, append_assoc, append-nil, arith, length-append}
 use mathlib.Core.Option.{Option, none, some}
 use lib.ListN.{get_elem?}
-use Rattle.std.specs.List.{AllByRecursion as All}
+use Rattle.std.specs.List.{AllByRecursion}
 use Rattle.std.proofs.lemmas.Bool.{ne_eqb, eq-eqb, cases_eq, or_parts}
 use Rattle.std.proofs.ByRecursion.{All-weaker, All-append, all_kept_by}
 use Rattle.ranks.specs.Ranks.{sum_below}
@@ -119,7 +119,7 @@ module _ {E : Type 0} where
 
   -- and of all jobs
   pub record History (before : List Entry) (s : Plain E) : Type 0 where
-    pub jobs_begun : All (Begun before s.name s.meaning s.now.ranks) s.jobs
+    pub jobs_begun : AllByRecursion (Begun before s.name s.meaning s.now.ranks) s.jobs
     pub later : (n : ℕ) → s.started < n → (turns is_sent n before ≡ []) × (turns acts n before ≡ [])
     pub known : (kind : Kind) (root : ℕ) (words : List ℕ) (n : ℕ) → Recorded (start kind root words) (started s.name n) before → n ≤ s.started
     pub few : (kind : Kind) (root : ℕ) (words : List ℕ) (n : ℕ) → Recorded (start kind root words) (started s.name n) before
@@ -225,8 +225,8 @@ module _ {E : Type 0} where
           let three : w ≡ words = cc in
           (one, two, three)
 
-      pending_on : (jobs : List (Job E)) → All (Begun before s.name s.meaning s.now.ranks) jobs → All (λ n. n ≤ s.started) (numbers jobs)
-          → All (Begun (before ++ (entry (start kind root words) a ∷ [])) s.name s.meaning s.now.ranks) jobs
+      pending_on : (jobs : List (Job E)) → AllByRecursion (Begun before s.name s.meaning s.now.ranks) jobs → AllByRecursion (λ n. n ≤ s.started) (numbers jobs)
+          → AllByRecursion (Begun (before ++ (entry (start kind root words) a ∷ [])) s.name s.meaning s.now.ranks) jobs
       pending_on [] hs below = tt
       pending_on (job ∷ jobs) hs below = (
         begun_on before (entry (start kind root words) a) s.name s.meaning s.now.ranks job (cond_nil (is_sent a), cond_nil (acts a))
@@ -315,7 +315,7 @@ module _ {E : Type 0} where
       ] in
       record {
         jobs_begun =
-            subst (λ q. All (Begun (before ++ (e ∷ [])) s.name m q) (map (moved_job n r move) s.jobs)) (sym same_ranks)
+            subst (λ q. AllByRecursion (Begun (before ++ (e ∷ [])) s.name m q) (map (moved_job n r move) s.jobs)) (sym same_ranks)
             (update (Begun before s.name m p) (Begun (before ++ (e ∷ [])) s.name m p) (moved_job n r move) n s.jobs job good.sound.distinct at h.jobs_begun
             moves
             (λ k away begun.
@@ -340,7 +340,7 @@ module _ {E : Type 0} where
       let on = silent_on before this s
       (record { no_turn = λ k. (turn_fails is_sent given name n r k (neither given fails), turn_fails acts given name n r k fails); no_start = turn_no_start name n r given s.name }) h in
       record {
-        jobs_begun = subst (All (Begun (before ++ (this ∷ [])) s.name s.meaning s.now.ranks)) (sym (jobs_stay n r a s.jobs)) on.jobs_begun;
+        jobs_begun = subst (AllByRecursion (Begun (before ++ (this ∷ [])) s.name s.meaning s.now.ranks)) (sym (jobs_stay n r a s.jobs)) on.jobs_begun;
         later = on.later;
         known = on.known;
         few = on.few;

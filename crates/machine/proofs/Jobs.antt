@@ -1,7 +1,7 @@
 -- The list of pending jobs: one looked up, one changed, one taken out.
 use Rattle.std.proofs.Common.{◌≡◌, ℕ, ◌+◌, ◌≤◌, Bool, true, false, cond, not, eqb, List, [], ◌∷◌, map, length, filter, sym, refl, ap, ◌∙◌, subst, ap₂, inl, inr, arith}
 use mathlib.Core.Option.{none, some}
-use Rattle.std.specs.List.{AllByRecursion as All}
+use Rattle.std.specs.List.{AllByRecursion}
 use Rattle.std.proofs.lemmas.Bool.{ne_eqb, eqb-true, eqb-false, cases_Bool}
 use Rattle.programme.specs.Formula.{messages}
 use Rattle.machine.specs.Job.{Job}
@@ -13,7 +13,7 @@ module _ {E : Type 0} where
   pub record Found (n : ℕ) (jobs : List (Job E)) (job : Job E) : Type 1 where
     pub number_is : job.number ≡ n
     pub among : Among n (numbers jobs)
-    pub all_have : (P : Job E → Type 0) → All P jobs → P job
+    pub all_have : (P : Job E → Type 0) → AllByRecursion P jobs → P job
 
   pub found : (n : ℕ) (jobs : List (Job E)) (job : Job E) → numbered n jobs ≡ some job → Found n jobs job
   found n [] job e = let z : ◌≡◌ {A = ℕ} 0 1 = cc in absurd (omega arith)
@@ -40,16 +40,16 @@ module _ {E : Type 0} where
       go false f = let z : ◌≡◌ {A = ℕ} 0 1 = cc in absurd (omega arith)
 
   -- a change of the job of one number, and of none other
-  others : (P Q : Job E → Type 0) (f : Job E → Job E) (n : ℕ) (jobs : List (Job E)) → (Among n (numbers jobs) → ⊥) → All P jobs
+  others : (P Q : Job E → Type 0) (f : Job E → Job E) (n : ℕ) (jobs : List (Job E)) → (Among n (numbers jobs) → ⊥) → AllByRecursion P jobs
       → ((k : Job E) → (k.number ≡ n → ⊥) → P k → Q (f k))
-      → All Q (map f jobs)
+      → AllByRecursion Q (map f jobs)
   others P Q f n [] absent h other = tt
   others P Q f n (k ∷ jobs) absent h other = (other k (λ e. absent (inl e)) h.0, others P Q f n jobs (λ t. absent (inr t)) h.1 other)
 
-  pub update : (P Q : Job E → Type 0) (f : Job E → Job E) (n : ℕ) (jobs : List (Job E)) (job : Job E) → Distinct (numbers jobs) → numbered n jobs ≡ some job → All P jobs
+  pub update : (P Q : Job E → Type 0) (f : Job E → Job E) (n : ℕ) (jobs : List (Job E)) (job : Job E) → Distinct (numbers jobs) → numbered n jobs ≡ some job → AllByRecursion P jobs
       → (P job → Q (f job))
       → ((k : Job E) → (k.number ≡ n → ⊥) → P k → Q (f k))
-      → All Q (map f jobs)
+      → AllByRecursion Q (map f jobs)
   update P Q f n [] job d e h here other = tt
   update P Q f n (k ∷ jobs) job d e h here other =
       elim (cases_Bool (eqb k.number n)) [
@@ -90,7 +90,7 @@ module _ {E : Type 0} where
   job_elsewhere n r move job other = rw (ne_eqb job.number n other)
 
   -- the jobs but for one number
-  pub without_all : (P Q : Job E → Type 0) (n : ℕ) (jobs : List (Job E)) → ((k : Job E) → (k.number ≡ n → ⊥) → P k → Q k) → All P jobs → All Q (filter (λ job. not (eqb job.number n)) jobs)
+  pub without_all : (P Q : Job E → Type 0) (n : ℕ) (jobs : List (Job E)) → ((k : Job E) → (k.number ≡ n → ⊥) → P k → Q k) → AllByRecursion P jobs → AllByRecursion Q (filter (λ job. not (eqb job.number n)) jobs)
   without_all P Q n [] other h = tt
   without_all P Q n (k ∷ jobs) other h =
       elim (cases_Bool (eqb k.number n)) [

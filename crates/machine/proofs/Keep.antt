@@ -2,7 +2,7 @@
 use Rattle.std.proofs.Common.{◌≡◌, ℕ, ◌+◌, ◌/◌, ◌<◌, ◌≤◌, true, ltb, leb, List, [], ◌∷◌, map, length, sym, refl, ap, ◌∙◌, subst, arith}
 use mathlib.Core.Option.{Option, none, some}
 use lib.ListN.{length-map}
-use Rattle.std.specs.List.{AllByRecursion as All}
+use Rattle.std.specs.List.{AllByRecursion}
 use Rattle.std.proofs.lemmas.Bool.{eq-eqb, and_parts, leb-true}
 use Rattle.programme.specs.Rank.{Mail, posted, after_send, after_take}
 use Rattle.machine.specs.Operation.{Lawful}
@@ -23,8 +23,8 @@ module _ {E : Type 0} where
       → numbers jobs ≡ numbers s.jobs
       → length jobs ≡ length s.jobs
       → ((p : ℕ) → messages_pending p jobs ≡ messages_pending p s.jobs)
-      → All (JobSound s.meaning net.ranks (waiting net)) jobs
-      → (fit s ≡ true → (a b : ℕ) → All (λ msg. Among (msg.tag / 16) (numbers s.jobs)) (waiting net a b))
+      → AllByRecursion (JobSound s.meaning net.ranks (waiting net)) jobs
+      → (fit s ≡ true → (a b : ℕ) → AllByRecursion (λ msg. Among (msg.tag / 16) (numbers s.jobs)) (waiting net a b))
       → Sound (with_now s net jobs)
   rebuilt s h net jobs er ed em el en ek eg js ws = record {
     same_ranks = er ∙ h.same_ranks;
@@ -34,12 +34,12 @@ module _ {E : Type 0} where
     started_few = h.started_few;
     fits = λ some_job. h.fits (omega arith);
     distinct = subst Distinct (sym en) h.distinct;
-    started_all = subst (All (λ n. n ≤ s.started)) (sym en) h.started_all;
+    started_all = subst (AllByRecursion (λ n. n ≤ s.started)) (sym en) h.started_all;
     pending_few = omega (arith, h.pending_few);
     pending_depth = omega (arith, h.pending_depth);
     pending_room = omega (arith, eg net.ranks, ap (λ p. messages_pending p s.jobs) er, h.pending_room, em);
     jobs_sound = js;
-    waiting_known = λ f a b. subst (λ ks. All (λ msg. Among (msg.tag / 16) ks) (waiting net a b)) (sym en) (ws f a b);
+    waiting_known = λ f a b. subst (λ ks. AllByRecursion (λ msg. Among (msg.tag / 16) ks) (waiting net a b)) (sym en) (ws f a b);
   }
 
   pub width_fits : (s : Plain E) → fit s ≡ true → s.meaning.width ≤ 6
@@ -105,5 +105,5 @@ module _ {E : Type 0} where
   carry_sound s h from to none =
       let same = sym (waiting_carried from to s.now) in
       rebuilt s h (with_carried from to s.now) s.jobs refl refl refl refl refl refl (λ p. refl)
-      (subst (λ w. All (JobSound s.meaning s.now.ranks w) s.jobs) same h.jobs_sound)
-      (λ f a b. subst (λ w. All (λ x. Among (x.tag / 16) (numbers s.jobs)) (w a b)) same (h.waiting_known f a b))
+      (subst (λ w. AllByRecursion (JobSound s.meaning s.now.ranks w) s.jobs) same h.jobs_sound)
+      (λ f a b. subst (λ w. AllByRecursion (λ x. Among (x.tag / 16) (numbers s.jobs)) (w a b)) same (h.waiting_known f a b))

@@ -2,7 +2,7 @@
 use Rattle.std.proofs.Common.{◌≡◌, ℕ, zero, suc, ◌/◌, ◌%◌, ◌<◌, true, cond, not, eqb, ◌⊎◌, List, [], ◌∷◌, ◌++◌, replicate, filter, sym, refl, ap, ◌∙◌, subst, inl, inr, ⊎_elim, arith}
 use mathlib.Core.List.{head-eq_of_cons-eq, tail-eq_of_cons-eq, cons≢nil}
 use mathlib.Core.Option.{none, some}
-use Rattle.std.specs.List.{AllByRecursion as All}
+use Rattle.std.specs.List.{AllByRecursion}
 use Rattle.std.proofs.lemmas.Bool.{ne_eqb, eq-eqb, eqb-true, eqb-false, cases_Bool, cases_eq}
 use Rattle.machine.specs.Network.{Message, oldest, without, of_job}
 use Rattle.machine.specs.Plain.{tag_of}
@@ -69,12 +69,12 @@ kept_others k n (x ∷ l) other =
     ]
 
 -- no message is of a job that none of them is known of
-pub kept_none : (n : ℕ) (ks : List ℕ) (l : List Message) → (Among n ks → ⊥) → All (λ msg. Among (msg.tag / 16) ks) l → filter (of_job n) l ≡ []
+pub kept_none : (n : ℕ) (ks : List ℕ) (l : List Message) → (Among n ks → ⊥) → AllByRecursion (λ msg. Among (msg.tag / 16) ks) l → filter (of_job n) l ≡ []
 kept_none n ks [] absent all = refl
 kept_none n ks (x ∷ l) absent all =
     rw (ne_eqb (x.tag / 16) n (λ e. absent (subst (λ k. Among k ks) e all.0))) (kept_none n ks l absent all.1)
 
-pub none_of : (n : ℕ) (l : List Message) → filter (of_job n) l ≡ [] → All (λ msg. msg.tag / 16 ≡ n → ⊥) l
+pub none_of : (n : ℕ) (l : List Message) → filter (of_job n) l ≡ [] → AllByRecursion (λ msg. msg.tag / 16 ≡ n → ⊥) l
 none_of n [] e = tt
 none_of n (x ∷ l) e =
     elim (cases_Bool (of_job n x)) [

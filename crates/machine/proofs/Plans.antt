@@ -1,7 +1,7 @@
 -- Every job has a plan: what the schedules come to, in the machine's words.
 use Rattle.std.proofs.Common.{◌≡◌, ℕ, zero, suc, ◌+◌, ◌<◌, ◌≤◌, cond, eqb, List, [], ◌∷◌, ◌++◌, length, get_or, take, drop, sym, refl, ap, ◌∙◌, ap₂, inl, inr, append_assoc, append-nil, zero-add, add-one, arith, length-append, length-take-le, take_all, take-suc}
 use lib.Seq.{take-nil, drop-append-le, take-append-le}
-use Rattle.std.specs.List.{AllByRecursion as All}
+use Rattle.std.specs.List.{AllByRecursion}
 use Rattle.std.proofs.lemmas.Bool.{ne_eqb, eq-eqb, cases_order}
 use Rattle.std.proofs.lemmas.List.{drop_all}
 use Rattle.std.proofs.ByRecursion.{All-get_or, All-take}
@@ -54,16 +54,16 @@ module _ {E : Type 0} where
       unit_right = lawful.monoid.unit_right;
     }
 
-    total_proper : (xs : List E) → All (Proper m) xs → Proper m (total m xs)
+    total_proper : (xs : List E) → AllByRecursion (Proper m) xs → Proper m (total m xs)
     total_proper [] h = lawful.monoid.unit_proper
     total_proper (x ∷ xs) h = lawful.monoid.join_proper x (total m xs) h.0 (total_proper xs h.1)
 
-    total_push : (xs : List E) (y : E) → All (Proper m) xs → Proper m y → total m (xs ++ (y ∷ [])) ≡ m.join (total m xs) y
+    total_push : (xs : List E) (y : E) → AllByRecursion (Proper m) xs → Proper m y → total m (xs ++ (y ∷ [])) ≡ m.join (total m xs) y
     total_push [] y h k = lawful.monoid.unit_right y k ∙ sym (lawful.monoid.unit_left y k)
     total_push (x ∷ xs) y h k = ap (m.join x) (total_push xs y h.1 k) ∙ sym (lawful.monoid.assoc x (total m xs) y h.0 (total_proper xs h.1) k)
 
     -- the first n inputs joined
-    span_as : (inputs : List E) → All (Proper m) inputs → (n : ℕ) → n ≤ length inputs → span m.unit m.join (λ r. get_or inputs r m.unit) 0 n ≡ total m (take n inputs)
+    span_as : (inputs : List E) → AllByRecursion (Proper m) inputs → (n : ℕ) → n ≤ length inputs → span m.unit m.join (λ r. get_or inputs r m.unit) 0 n ≡ total m (take n inputs)
     unfolding span
     span_as inputs proper zero h = refl
     span_as inputs proper (suc n) h =
@@ -71,10 +71,10 @@ module _ {E : Type 0} where
         ∙ sym (total_push (take n inputs) (get_or inputs n m.unit) (All-take (Proper m) n inputs proper) (All-get_or (Proper m) inputs n m.unit (omega arith) proper))
         ∙ ap (total m) (sym (take-suc inputs n m.unit (omega arith)))
 
-    all_span : (inputs : List E) → All (Proper m) inputs → (p : ℕ) → length inputs ≡ p → span m.unit m.join (λ r. get_or inputs r m.unit) 0 p ≡ total m inputs
+    all_span : (inputs : List E) → AllByRecursion (Proper m) inputs → (p : ℕ) → length inputs ≡ p → span m.unit m.join (λ r. get_or inputs r m.unit) 0 p ≡ total m inputs
     all_span inputs proper p e = span_as inputs proper p (omega arith) ∙ ap (total m) (take_all p inputs (omega arith))
 
-    final_as : (kind : Kind) (p root : ℕ) (inputs : List E) → All (Proper m) inputs → length inputs ≡ p → root < p → (last : ℕ → Rank E)
+    final_as : (kind : Kind) (p root : ℕ) (inputs : List E) → AllByRecursion (Proper m) inputs → length inputs ≡ p → root < p → (last : ℕ → Rank E)
         → ((r : ℕ) → r < p → Promised m.unit m.join p root (λ q. get_or inputs q m.unit) kind r (last r))
         → Final m kind p root inputs last
     final_as Broadcast p root inputs proper e within last h = h

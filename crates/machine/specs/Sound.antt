@@ -1,6 +1,6 @@
 -- What holds of every machine that a new one becomes by calls.
 use Rattle.std.specs.Prelude.{◌≡◌, ℕ, ◌+◌, ◌-◌, ◌/◌, ◌<◌, ◌≤◌, true, cond, ◌⊎◌, List, [], ◌∷◌, map, length, take, replicate, filter, ◌==◌, slice_index_or}
-use Rattle.std.specs.List.{AllByRecursion as All}
+use Rattle.std.specs.List.{AllByRecursion}
 use Rattle.ranks.specs.Ranks.{most_ranks, sum_below, greatest_below}
 use Rattle.programme.specs.declared.Kind.{Kind}
 use Rattle.programme.specs.declared.Action.{Action}
@@ -59,7 +59,7 @@ module _ {E : Type 0} (m : Meaning E) where
 
   -- every job has a plan
   abbrev pub Planned : Type 0
-  Planned = (kind : Kind) (p root : ℕ) (inputs : List E) → p ≤ most_ranks → root < p → length inputs ≡ p → All Proper inputs → Plan kind p root inputs
+  Planned = (kind : Kind) (p root : ℕ) (inputs : List E) → p ≤ most_ranks → root < p → length inputs ≡ p → AllByRecursion Proper inputs → Plan kind p root inputs
 
   -- the actions that rank r has done
   abbrev pub acts_done : ℕ → Job E → ℕ → List Action
@@ -85,7 +85,7 @@ module _ {E : Type 0} (m : Meaning E) where
     pub known : x ≡ after (take x.done prog)
     pub value_proper : Proper x.value
     pub prefix_proper : Proper x.prefix
-    pub kept_proper : All Proper x.kept
+    pub kept_proper : AllByRecursion Proper x.kept
 
   -- of a pending job, w being what waits between two ranks
   pub record JobSound (p : ℕ) (w : ℕ → ℕ → List Message) (job : Job E) : Type 0 where
@@ -112,12 +112,12 @@ module _ {E : Type 0} where
     pub started_few : s.started ≤ 65535
     pub fits : 0 < length s.jobs → fit s ≡ true
     pub distinct : Distinct (numbers s.jobs)
-    pub started_all : All (λ n. n ≤ s.started) (numbers s.jobs)
+    pub started_all : AllByRecursion (λ n. n ≤ s.started) (numbers s.jobs)
     pub pending_few : length s.jobs ≤ 4
     pub pending_depth : length s.jobs ≤ s.now.depth
     pub pending_room : messages_pending s.now.ranks s.jobs ≤ s.now.room
-    pub jobs_sound : All (JobSound s.meaning s.now.ranks (waiting s.now)) s.jobs
-    pub waiting_known : fit s ≡ true → (a b : ℕ) → All (λ msg. Among (msg.tag / label_count) (numbers s.jobs)) (waiting s.now a b)
+    pub jobs_sound : AllByRecursion (JobSound s.meaning s.now.ranks (waiting s.now)) s.jobs
+    pub waiting_known : fit s ≡ true → (a b : ℕ) → AllByRecursion (λ msg. Among (msg.tag / label_count) (numbers s.jobs)) (waiting s.now a b)
 
   -- what a machine is that a new one becomes by calls
   pub record Good (s : Plain E) : Type 0 where

@@ -1,7 +1,7 @@
 -- What the matrix stands for after each call.
 use Rattle.std.proofs.Common.{◌≡◌, ℕ, zero, suc, ◌+◌, ◌-◌, ◌*◌, ◌<◌, ◌≤◌, Bool, true, false, cond, ◌&&◌, eqb, leb, ◌⊎◌, List, [], ◌∷◌, ◌++◌, length, get_or, take, drop, replicate, Some, sym, refl, ap, ◌∙◌, subst, ap₂, inl, inr, mul-le-mul, arith}
 use mathlib.Core.Path.{fun_ext}
-use Rattle.std.specs.List.{HoldsAt, AllByRecursion as All}
+use Rattle.std.specs.List.{HoldsAt, AllByRecursion}
 use Rattle.std.proofs.lemmas.List.{length-take-le, length-replicate, get_or-replicate, get_or_past}
 use Rattle.std.proofs.lemmas.Bool.{cases_Bool, cases_lt, and_parts, eqb-true, leb-true, eq-eqb, true≢false}
 use Rattle.std.proofs.ByRecursion.{All-weaker}
@@ -83,11 +83,11 @@ module _ (m : Mailbox) (s : MailboxSound m) (a b : ℕ) (pair : pair_ok m.ranks 
   pub small_place : base p d a b + d ≤ 262144
   small_place = omega (arith, slot_inside p d a b pair, mul-le-mul (mul-le-mul s.few s.few) s.shallow)
 
-  pub full_between : All (λ r. is_free r ≡ false) slots → between net a b ≡ d
+  pub full_between : AllByRecursion (λ r. is_free r ≡ false) slots → between net a b ≡ d
   full_between h = between_here ∙ full_count slots (s.filed a b pair) h ∙ slots_length
 
   -- the first free slot is at k
-  module _ (k : ℕ) (x : Slot) (inside : k < length slots) (before : All (λ r. is_free r ≡ false) (take k slots)) (here : HoldsAt (λ r. is_free r ≡ true) slots k) where
+  module _ (k : ℕ) (x : Slot) (inside : k < length slots) (before : AllByRecursion (λ r. is_free r ≡ false) (take k slots)) (here : HoldsAt (λ r. is_free r ≡ true) slots k) where
     whole : take k slots ++ (get_or slots k x ∷ drop (k + 1) slots) ≡ slots
     whole = split_at slots k x inside
 
@@ -157,7 +157,7 @@ module _ (m : Mailbox) (s : MailboxSound m) (a b : ℕ) (pair : pair_ok m.ranks 
             by x' y' q (inr e) = subst Filed (sym (box_other p d ws vs a b pair frame x' y' q e)) (s.filed x' y' q)
 
   -- the first under way is at k
-  module _ (k : ℕ) (x : Slot) (inside : k < length slots) (before : All (λ r. is_under r ≡ false) (take k slots)) (here : HoldsAt (λ r. is_under r ≡ true) slots k) where
+  module _ (k : ℕ) (x : Slot) (inside : k < length slots) (before : AllByRecursion (λ r. is_under r ≡ false) (take k slots)) (here : HoldsAt (λ r. is_under r ≡ true) slots k) where
     all_of : take k slots ++ (get_or slots k x ∷ drop (k + 1) slots) ≡ slots
     all_of = split_at slots k x inside
 
@@ -227,7 +227,7 @@ module _ (m : Mailbox) (s : MailboxSound m) (a b : ℕ) (pair : pair_ok m.ranks 
             by x' y' q (inr e) = subst Filed (sym (box_other p d ws vs a b pair frame_carried x' y' q e)) (s.filed x' y' q)
 
   -- the oldest that arrived with the tag t is at k
-  module _ (t k : ℕ) (x : Slot) (inside : k < length slots) (before : All (λ r. is_tagged t r ≡ false) (take k slots)) (here : HoldsAt (λ r. is_tagged t r ≡ true) slots k) where
+  module _ (t k : ℕ) (x : Slot) (inside : k < length slots) (before : AllByRecursion (λ r. is_tagged t r ≡ false) (take k slots)) (here : HoldsAt (λ r. is_tagged t r ≡ true) slots k) where
     parts : take k slots ++ (get_or slots k x ∷ drop (k + 1) slots) ≡ slots
     parts = split_at slots k x inside
 
@@ -323,11 +323,11 @@ closed_sound ws = record {
 }
 
 -- a matrix of free slots
-row_all : (Q : Slot → Type 0) (f : ℕ → Slot) (b d : ℕ) → ((j : ℕ) → j < b + d → Q (f j)) → All Q (row f b d)
+row_all : (Q : Slot → Type 0) (f : ℕ → Slot) (b d : ℕ) → ((j : ℕ) → j < b + d → Q (f j)) → AllByRecursion Q (row f b d)
 row_all Q f b zero h = tt
 row_all Q f b (suc d) h = (h b (omega arith), row_all Q f (b + 1) d (λ j l. h j (omega arith)))
 
-free_filed : (ss : List Slot) → All (λ s. is_free s ≡ true) ss → Filed ss
+free_filed : (ss : List Slot) → AllByRecursion (λ s. is_free s ≡ true) ss → Filed ss
 free_filed [] h = tt
 free_filed (s ∷ ss) h =
     (omega (arith, eqb-true s.mark 0 h.0), (λ _. h.1), (λ _. All-weaker (λ r. is_free r ≡ true) (λ r. is_arrived r ≡ false) free_arrived ss h.1), free_filed ss h.1)
@@ -344,7 +344,7 @@ module _ (p d : ℕ) where
       by (inl h) = get_or-replicate (4 * (p * p * d)) j 0 0 h
       by (inr h) = get_or_past zeros j 0 (omega (arith, length-replicate {A = ℕ} (4 * (p * p * d)) 0))
 
-  box_free : (a b : ℕ) → All (λ s. is_free s ≡ true) (box p d zeros a b)
+  box_free : (a b : ℕ) → AllByRecursion (λ s. is_free s ≡ true) (box p d zeros a b)
   box_free a b = row_all (λ s. is_free s ≡ true) (slot_at zeros) (base p d a b) d (λ j _. eq-eqb (get_or zeros (4 * j) 0) 0 (zero_at (4 * j)))
 
   empty : (test : Slot → Bool) → ((s : Slot) → is_free s ≡ true → test s ≡ false) → filed_lists p d zeros test ≡ (λ _ _. [])

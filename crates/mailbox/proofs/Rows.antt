@@ -1,6 +1,6 @@
 -- The slots of a pair, and the messages that they stand for.
 use Rattle.std.proofs.Common.{◌≡◌, ℕ, zero, suc, ◌+◌, ◌-◌, ◌<◌, ◌≤◌, true, false, cond, eqb, leb, ◌⊎◌, List, [], ◌∷◌, ◌++◌, length, get_or, take, drop, sym, refl, ap, ◌∙◌, subst, ap₂, inl, inr, arith}
-use Rattle.std.specs.List.{AllByRecursion as All}
+use Rattle.std.specs.List.{AllByRecursion}
 use Rattle.std.proofs.lemmas.List.{append-nil}
 use Rattle.std.proofs.ByRecursion.{All-append, All-weaker}
 use Rattle.std.proofs.lemmas.Bool.{cases_Bool, and_parts, and_from, eqb-true, leb-true, le-leb, lt-leb, true≢false}
@@ -57,16 +57,16 @@ pub under_free : (s : Slot) → is_under s ≡ true → is_free s ≡ false
 under_free s e = grind (arith, nat_tests)
 
 -- what stands behind
-pub filed_free : (p : List Slot) (x : Slot) (q : List Slot) → Filed (p ++ (x ∷ q)) → is_free x ≡ true → All (λ r. is_free r ≡ true) q
+pub filed_free : (p : List Slot) (x : Slot) (q : List Slot) → Filed (p ++ (x ∷ q)) → is_free x ≡ true → AllByRecursion (λ r. is_free r ≡ true) q
 filed_free [] x q f e = f.1 e
 filed_free (y ∷ p) x q f e = filed_free p x q f.3 e
 
-pub filed_under : (p : List Slot) (x : Slot) (q : List Slot) → Filed (p ++ (x ∷ q)) → is_under x ≡ true → All (λ r. is_arrived r ≡ false) q
+pub filed_under : (p : List Slot) (x : Slot) (q : List Slot) → Filed (p ++ (x ∷ q)) → is_under x ≡ true → AllByRecursion (λ r. is_arrived r ≡ false) q
 filed_under [] x q f e = f.2 e
 filed_under (y ∷ p) x q f e = filed_under p x q f.3 e
 
 -- how many are in use: the place of the first free slot
-count_used : (p : List Slot) → All (λ s. is_free s ≡ false) p → All (λ s. s.mark ≤ 6) p → length (listed message_of is_under p) + length (listed message_of is_arrived p) ≡ length p
+count_used : (p : List Slot) → AllByRecursion (λ s. is_free s ≡ false) p → AllByRecursion (λ s. s.mark ≤ 6) p → length (listed message_of is_under p) + length (listed message_of is_arrived p) ≡ length p
 count_used [] h m = ap₂ (λ x y. length x + length y) (stored.listed_nil message_of is_under) (stored.listed_nil message_of is_arrived)
 count_used (x ∷ p) h m = by (count_used p h.1 m.1) (cases_Bool (is_under x))
   where
@@ -83,7 +83,7 @@ count_used (x ∷ p) h m = by (count_used p h.1 m.1) (cases_Bool (is_under x))
         more : length (listed message_of is_under p) + length (listed message_of is_arrived p) ≡ length p → length (listed message_of is_under p) + suc (length (listed message_of is_arrived p)) ≡ suc (length p)
         more r = omega arith
 
-pub filed_marks : (p : List Slot) (q : List Slot) → Filed (p ++ q) → All (λ s. s.mark ≤ 6) p
+pub filed_marks : (p : List Slot) (q : List Slot) → Filed (p ++ q) → AllByRecursion (λ s. s.mark ≤ 6) p
 filed_marks [] q f = tt
 filed_marks (x ∷ p) q f = (f.0, filed_marks p q f.3)
 
@@ -92,14 +92,14 @@ filed_back [] x q f = f.3
 filed_back (y ∷ p) x q f = filed_back p x q f.3
 
 -- a send into the first free slot
-module _ (p : List Slot) (x y : Slot) (q : List Slot) (f : Filed (p ++ (x ∷ q))) (before : All (λ s. is_free s ≡ false) p) (here : is_free x ≡ true) (new : is_under y ≡ true) (small : y.mark ≤ 6) where
-  q_free : All (λ r. is_free r ≡ true) q
+module _ (p : List Slot) (x y : Slot) (q : List Slot) (f : Filed (p ++ (x ∷ q))) (before : AllByRecursion (λ s. is_free s ≡ false) p) (here : is_free x ≡ true) (new : is_under y ≡ true) (small : y.mark ≤ 6) where
+  q_free : AllByRecursion (λ r. is_free r ≡ true) q
   q_free = filed_free p x q f here
 
   q_under : listed message_of is_under q ≡ []
   q_under = stored.listed_none message_of is_under q (All-weaker (λ r. is_free r ≡ true) (λ r. is_under r ≡ false) free_under q q_free)
 
-  q_arrived : All (λ r. is_arrived r ≡ false) q
+  q_arrived : AllByRecursion (λ r. is_arrived r ≡ false) q
   q_arrived = All-weaker (λ r. is_free r ≡ true) (λ r. is_arrived r ≡ false) free_arrived q q_free
 
   pub posted_under : listed message_of is_under (p ++ (y ∷ q)) ≡ listed message_of is_under (p ++ (x ∷ q)) ++ (message_of y ∷ [])
@@ -111,7 +111,7 @@ module _ (p : List Slot) (x y : Slot) (q : List Slot) (f : Filed (p ++ (x ∷ q)
   pub posted_arrived : listed message_of is_arrived (p ++ (y ∷ q)) ≡ listed message_of is_arrived (p ++ (x ∷ q))
   posted_arrived = stored.listed_skip message_of is_arrived p y q (under_arrived y new) ∙ sym (stored.listed_skip message_of is_arrived p x q (free_arrived x here))
 
-  posted_by : (r : List Slot) → All (λ s. is_free s ≡ false) r → Filed (r ++ (x ∷ q)) → Filed (r ++ (y ∷ q))
+  posted_by : (r : List Slot) → AllByRecursion (λ s. is_free s ≡ false) r → Filed (r ++ (x ∷ q)) → Filed (r ++ (y ∷ q))
   posted_by [] h g = (small, (λ e. absurd (true≢false (sym e ∙ under_free y new))), (λ _. q_arrived), g.3)
   posted_by (z ∷ r) h g = (
     g.0,
@@ -123,7 +123,7 @@ module _ (p : List Slot) (x y : Slot) (q : List Slot) (f : Filed (p ++ (x ∷ q)
   pub posted_filed : Filed (p ++ (y ∷ q))
   posted_filed = posted_by p before f
 
-pub free_count : (p : List Slot) (x : Slot) (q : List Slot) → Filed (p ++ (x ∷ q)) → All (λ s. is_free s ≡ false) p → is_free x ≡ true → length (listed message_of is_under (p ++ (x ∷ q))) + length (listed message_of is_arrived (p ++ (x ∷ q))) ≡ length p
+pub free_count : (p : List Slot) (x : Slot) (q : List Slot) → Filed (p ++ (x ∷ q)) → AllByRecursion (λ s. is_free s ≡ false) p → is_free x ≡ true → length (listed message_of is_under (p ++ (x ∷ q))) + length (listed message_of is_arrived (p ++ (x ∷ q))) ≡ length p
 free_count p x q f before here =
     let q_free = filed_free p x q f here in
     let u = stored.listed_none message_of is_under q (All-weaker (λ r. is_free r ≡ true) (λ r. is_under r ≡ false) free_under q q_free) in
@@ -133,11 +133,11 @@ free_count p x q f before here =
     (stored.listed_skip message_of is_arrived p x q (free_arrived x here) ∙ stored.listed_append message_of is_arrived p q ∙ ap (λ l. listed message_of is_arrived p ++ l) v ∙ append-nil (listed message_of is_arrived p))
     ∙ count_used p before (filed_marks p (x ∷ q) f)
 
-pub full_count : (p : List Slot) → Filed p → All (λ s. is_free s ≡ false) p → length (listed message_of is_under p) + length (listed message_of is_arrived p) ≡ length p
+pub full_count : (p : List Slot) → Filed p → AllByRecursion (λ s. is_free s ≡ false) p → length (listed message_of is_under p) + length (listed message_of is_arrived p) ≡ length p
 full_count p f h = count_used p h (filed_marks p [] (subst Filed (sym (append-nil p)) f))
 
 -- a carry of the first under way
-module _ (p : List Slot) (x y : Slot) (q : List Slot) (f : Filed (p ++ (x ∷ q))) (before : All (λ s. is_under s ≡ false) p) (here : is_under x ≡ true) (now_arrived : is_arrived y ≡ true) (same : message_of y ≡ message_of x) (small : y.mark ≤ 6) where
+module _ (p : List Slot) (x y : Slot) (q : List Slot) (f : Filed (p ++ (x ∷ q))) (before : AllByRecursion (λ s. is_under s ≡ false) p) (here : is_under x ≡ true) (now_arrived : is_arrived y ≡ true) (same : message_of y ≡ message_of x) (small : y.mark ≤ 6) where
   pub carried_first : listed message_of is_under (p ++ (x ∷ q)) ≡ message_of x ∷ listed message_of is_under q
   carried_first = stored.listed_at message_of is_under p x q here ∙ ap (λ l. l ++ (message_of x ∷ listed message_of is_under q)) (stored.listed_none message_of is_under p before)
 
@@ -151,7 +151,7 @@ module _ (p : List Slot) (x y : Slot) (q : List Slot) (f : Filed (p ++ (x ∷ q)
       ∙ ap₂ (λ m l. listed message_of is_arrived p ++ (m ∷ l)) same none_behind
       ∙ ap (λ l. l ++ (message_of x ∷ [])) (sym (stored.listed_skip message_of is_arrived p x q (under_arrived x here) ∙ stored.listed_append message_of is_arrived p q ∙ ap (λ l. listed message_of is_arrived p ++ l) none_behind ∙ append-nil (listed message_of is_arrived p)))
 
-  carried_by : (r : List Slot) → All (λ s. is_under s ≡ false) r → Filed (r ++ (x ∷ q)) → Filed (r ++ (y ∷ q))
+  carried_by : (r : List Slot) → AllByRecursion (λ s. is_under s ≡ false) r → Filed (r ++ (x ∷ q)) → Filed (r ++ (y ∷ q))
   carried_by [] h g = (small, (λ e. absurd (true≢false (sym now_arrived ∙ free_arrived y e))), (λ e. absurd (true≢false (sym e ∙ arrived_under y now_arrived))), g.3)
   carried_by (z ∷ r) h g = (
     g.0,

@@ -1,7 +1,7 @@
 -- A sound matrix has the shape of a network.
 use Rattle.std.specs.Prelude.{ℕ, ◌*◌, ◌≤◌, Bool, true, false, cond, List, [], ◌∷◌, length, refl}
 use Rattle.std.proofs.Common.{ap, ◌∙◌, arith, mul-zero}
-use Rattle.std.specs.List.{AllByRecursion as All}
+use Rattle.std.specs.List.{AllByRecursion}
 use Rattle.std.proofs.lemmas.List.{length-take}
 use Rattle.ranks.specs.Ranks.{pair_ok}
 use Rattle.transport.specs.Network.{Shaped, Short}
@@ -12,7 +12,7 @@ use Rattle.mailbox.specs.declared.Mailbox.{Mailbox}
 use Rattle.mailbox.specs.Slots.{message_of, words_of, box, is_under, is_arrived}
 use Rattle.mailbox.specs.Matrix.{filed_lists, mailbox_meaning, MailboxSound}
 
-all_brief : (ss : List Slot) → All (λ s. length (words_of s) ≤ 2) ss
+all_brief : (ss : List Slot) → AllByRecursion (λ s. length (words_of s) ≤ 2) ss
 all_brief [] = tt
 all_brief (s ∷ ss) = (brief s, all_brief ss)
   where

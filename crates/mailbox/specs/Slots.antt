@@ -1,7 +1,7 @@
 -- A slot of four words: a mark, a tag and two words. The mark is 0 in a free slot; else it is 1 more than the number of words,
 -- and 3 more again where the message has arrived.
 use Rattle.std.specs.Prelude.{◌≡◌, ℕ, zero, suc, ◌+◌, ◌-◌, ◌*◌, ◌≤◌, Bool, true, false, cond, ◌&&◌, List, [], ◌∷◌, take, ◌==◌, nat_le, slice_index}
-use Rattle.std.specs.List.{AllByRecursion as All}
+use Rattle.std.specs.List.{AllByRecursion}
 use Rattle.transport.specs.Network.{Message, message}
 use Rattle.mailbox.specs.declared.Slot.{Slot}
 use Rattle.mailbox.specs.declared.Wanted.{Wanted}
@@ -59,6 +59,6 @@ abbrev pub Filed : List Slot → Type 0
 Filed [] = Unit {0}
 Filed (s ∷ ss) =
     (s.mark ≤ 6)
-    × (is_free s ≡ true → All (λ r. is_free r ≡ true) ss)
-    × (is_under s ≡ true → All (λ r. is_arrived r ≡ false) ss)
+    × (is_free s ≡ true → AllByRecursion (λ r. is_free r ≡ true) ss)
+    × (is_under s ≡ true → AllByRecursion (λ r. is_arrived r ≡ false) ss)
     × Filed ss

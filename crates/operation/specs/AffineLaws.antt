@@ -3,7 +3,7 @@ use Rattle.std.specs.Prelude.{◌≡◌, ℕ, ◌+◌, ◌*◌, ◌/◌, ◌%◌
 use Rattle.std.proofs.Common.{sym, ap, ap₂, ◌∙◌, mod-lt, mod-eq_of_lt, mul-add, mul_left_comm, mul_comm, mul_assoc, mul-one, one-mul, mul-zero, add-zero, zero-add, add_assoc, arith}
 use Rattle.std.proofs.Math.Nat.{mod-add-mod, add-mod-mod, mod-add-div, add-mul-mod_self_left}
 use Rattle.std.proofs.lemmas.Bool.{lt-ltb, ltb-true, and_parts, and_from, cond_both}
-use Rattle.std.specs.List.{AllByRecursion as All}
+use Rattle.std.specs.List.{AllByRecursion}
 use Rattle.operation.specs.Meaning.{Monoid, Packing}
 use Rattle.operation.specs.Affine.{affine, affine_of, affine_proper, affine_join, affine_read}
 use Rattle.operation.specs.declared.affine.AffineElement.{AffineElement}
@@ -60,7 +60,7 @@ module _ (m : ℕ) (low : 2 ≤ m) (high : m ≤ 2147483647) where
       (ap (λ n. n % m) (one-mul x.a) ∙ mod-eq_of_lt k.0)
       (ap (λ n. (n + 0) % m) (one-mul x.b) ∙ ap (λ n. n % m) (add-zero x.b) ∙ mod-eq_of_lt k.1)
 
-  words : (x : AffineElement) → affine_proper m x ≡ true → All (λ w. w < 2 ^ 32) ((affine m).pack x)
+  words : (x : AffineElement) → affine_proper m x ≡ true → AllByRecursion (λ w. w < 2 ^ 32) ((affine m).pack x)
   words x h = let k = parts x h in let a : x.a < 2 ^ 32 = omega arith in let b : x.b < 2 ^ 32 = omega arith in (a, (b, tt))
 
   read_fair : (a b : ℕ) → Fair (affine m) (a ∷ b ∷ []) (affine_read m a b)

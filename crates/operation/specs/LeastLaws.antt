@@ -4,7 +4,7 @@ use Rattle.std.proofs.Common.{sym, ap, ◌∙◌, inl, inr, arith}
 use Rattle.std.proofs.lemmas.Bool.Decides.{nat_tests}
 use Rattle.std.proofs.lemmas.Int.{ints}
 use Rattle.std.proofs.lemmas.Bool.{cases_lt, cond_both, eqb-true, ltb-true, leb-true, lt-ltb, and_parts}
-use Rattle.std.specs.List.{AllByRecursion as All}
+use Rattle.std.specs.List.{AllByRecursion}
 use Rattle.operation.specs.Meaning.{Monoid, Packing}
 use Rattle.operation.specs.Least.{least, placed_at, first, least_proper, least_join, least_pack, least_read, none_read, some_read, biased, unbiased}
 use Rattle.operation.specs.declared.least.Placed.{Placed}
@@ -76,7 +76,7 @@ long : (x : Option Placed) → length (least_pack x) ≡ 3
 long None = refl
 long (Some x) = refl
 
-words : (x : Option Placed) → least_proper x ≡ true → All (λ w. w < 2 ^ 32) (least_pack x)
+words : (x : Option Placed) → least_proper x ≡ true → AllByRecursion (λ w. w < 2 ^ 32) (least_pack x)
 words None h = (omega arith, (omega arith, (omega arith, tt)))
 words (Some x) h =
     let k = and_parts (int_le (negsuc 2147483647) x.value) (int_le x.value (pos 2147483647) && nat_lt x.place (2 ^ 32)) h in

@@ -1,6 +1,6 @@
 -- What an operation means, and the laws that every operation keeps.
 use Rattle.std.specs.Prelude.{◌≡◌, ℕ, ◌^◌, ◌<◌, Bool, true, cond, List, ◌++◌, length, drop, Ok, Err, Result, ◌==◌, ◌≢◌, nat_le}
-use Rattle.std.specs.List.{AllByRecursion as All}
+use Rattle.std.specs.List.{AllByRecursion}
 use Rattle.operation.specs.declared.fault.BlockFault.{BlockFault}
 use Rattle.operation.specs.declared.fault.BlockFault.TheVariants.{WrongLength, WrongWord}
 use Rattle.operation.specs.declared.fault.ModulusFault.{ModulusFault}
@@ -42,7 +42,7 @@ widest = 6
 pub record Packing {E : Type 0} (m : Meaning E) : Type 0 where
   -- the block of a proper element has the operation's width and holds 32-bit words
   pub pack_length : (x : E) → m.proper x ≡ true → length (m.pack x) ≡ m.width
-  pub pack_words : (x : E) → m.proper x ≡ true → All (λ w. w < 2 ^ 32) (m.pack x)
+  pub pack_words : (x : E) → m.proper x ≡ true → AllByRecursion (λ w. w < 2 ^ 32) (m.pack x)
   pub unpack_pack : (x : E) → m.proper x ≡ true → m.unpack (m.pack x) ≡ Ok x
   -- a block that unpacks gives a proper element, and is its block
   pub unpack_proper : (b : List ℕ) (x : E) → m.unpack b ≡ Ok x → m.proper x ≡ true

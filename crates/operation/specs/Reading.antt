@@ -2,7 +2,7 @@
 use Rattle.std.specs.Prelude.{◌≡◌, ℕ, ◌^◌, ◌<◌, true, List, length, Ok, Err, Result, ◌==◌, ◌≢◌}
 use Rattle.std.proofs.Common.{sym, subst, ◌∙◌, inl, inr, arith}
 use Rattle.std.proofs.lemmas.Bool.{cases_eq, eq-eqb, ne_eqb, cond-true, cond-false}
-use Rattle.std.specs.List.{AllByRecursion as All}
+use Rattle.std.specs.List.{AllByRecursion}
 use Rattle.operation.specs.Meaning.{Meaning, Packing, sized}
 use Rattle.operation.specs.declared.fault.BlockFault.{BlockFault}
 use Rattle.operation.specs.declared.fault.BlockFault.TheVariants.{WrongLength, WrongWord}
@@ -34,7 +34,7 @@ module _ {E : Type 0} (m : Meaning E) where
           ]
 
       pub packing_from : ((x : E) → m.proper x ≡ true → length (m.pack x) ≡ m.width)
-          → ((x : E) → m.proper x ≡ true → All (λ w. w < 2 ^ 32) (m.pack x))
+          → ((x : E) → m.proper x ≡ true → AllByRecursion (λ w. w < 2 ^ 32) (m.pack x))
           → ((x : E) → m.proper x ≡ true → read (m.pack x) ≡ Ok x) → Packing m
       packing_from long words back = record {
         pack_length = long;

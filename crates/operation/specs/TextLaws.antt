@@ -3,7 +3,7 @@ use Rattle.std.specs.Prelude.{◌≡◌, ℕ, ◌+◌, ◌-◌, ◌*◌, ◌/◌
 use Rattle.std.proofs.Common.{ap, ◌∙◌, arith}
 use Rattle.std.proofs.lemmas.Bool.Decides.{nat_tests}
 use Rattle.std.proofs.lemmas.Bool.{cond-true, cond_both, eqb-true, leb-true, ltb-true, and_parts}
-use Rattle.std.specs.List.{AllByRecursion as All}
+use Rattle.std.specs.List.{AllByRecursion}
 use Rattle.operation.specs.Meaning.{Monoid, Packing}
 use Rattle.operation.specs.Text.{text, counts_of, counts_proper, counts_join, text_proper, text_join, text_pack, text_read, empty_read, filled_read, lost_word}
 use Rattle.operation.specs.declared.text.Counts.{Counts}
@@ -52,7 +52,7 @@ join_proper (Filled x) (Filled y) hx hy =
     sum : (b l w : ℕ) (f t : Bool) → counts_proper (counts_of (b % 2 ^ 32) (l % 2 ^ 32) (w % 2 ^ 32) f t) ≡ true
     sum b l w f t = grind (arith, nat_tests)
 
-words : (x : TextElement) → text_proper x ≡ true → All (λ w. w < 2 ^ 32) (text_pack x)
+words : (x : TextElement) → text_proper x ≡ true → AllByRecursion (λ w. w < 2 ^ 32) (text_pack x)
 words Empty h = (omega arith, (omega arith, (omega arith, (omega arith, tt))))
 words (Filled x) h =
     let k = and_parts (nat_lt x.bytes (2 ^ 32)) (nat_lt x.lines (2 ^ 32) && nat_lt x.words (2 ^ 32)) h in

@@ -1,7 +1,7 @@
 -- Segments put together again give the message.
 use Rattle.std.proofs.Common.{◌≡◌, ℕ, zero, suc, ◌+◌, ◌-◌, ◌*◌, ◌/◌, ◌<◌, ◌≤◌, List, [], ◌∷◌, ◌++◌, length, take, drop, replicate, sym, refl, ap, ◌∙◌, subst, ap₂, suc-mul, mul_comm, zero-mul, arith, take-add}
 use native.Mathlib.Nat.{lt-div-mul-add, mul-div_right}
-use Rattle.std.specs.List.{flat_map, AllByRecursion as All}
+use Rattle.std.specs.List.{flat_map, AllByRecursion}
 use Rattle.std.proofs.lemmas.List.{length-append, length-replicate, take_all, take_at, drop_at, drop-drop}
 use Rattle.transport.specs.Network.{Message, message, Short}
 use Rattle.segmented.specs.Segments.{pieces, block, cut, segments, first_tag, all_words, unpacked, rebuilt, groups, decode, Coded}
@@ -53,7 +53,7 @@ module _ (lim t : ℕ) where
       turn : suc k * lim ≡ k * lim + lim → lim + k * lim ≡ suc k * lim
       turn e = omega arith
 
-  pub tags_cut : (k : ℕ) (ws : List ℕ) → All (λ m. m.tag ≡ t) (cut k lim t ws)
+  pub tags_cut : (k : ℕ) (ws : List ℕ) → AllByRecursion (λ m. m.tag ≡ t) (cut k lim t ws)
   tags_cut zero ws = tt
   tags_cut (suc k) ws = (refl, tags_cut k (drop lim ws))
 
@@ -69,7 +69,7 @@ module _ (lim : ℕ) (some : 0 < lim) where
   unfolding segments
   length-segments m = length_cut lim m.tag (pieces lim) (block m.words)
 
-  pub tags_segments : (m : Message) → All (λ s. s.tag ≡ m.tag) (segments lim m)
+  pub tags_segments : (m : Message) → AllByRecursion (λ s. s.tag ≡ m.tag) (segments lim m)
   unfolding segments
   tags_segments m = tags_cut lim m.tag (pieces lim) (block m.words)
 

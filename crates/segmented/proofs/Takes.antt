@@ -1,6 +1,6 @@
 -- The segments of the oldest message with a tag are taken one after the other.
 use Rattle.std.proofs.Common.{◌≡◌, ℕ, zero, suc, ◌+◌, ◌-◌, ◌*◌, ◌<◌, ◌≤◌, min, Bool, true, false, cond, eqb, ◌⊎◌, List, [], ◌∷◌, ◌++◌, length, take, drop, is_some, Some, None, Option, sym, refl, ap, ◌∙◌, subst, inl, inr, suc-mul, add-mul, one-mul, zero-mul, arith, take-add}
-use Rattle.std.specs.List.{flat_map, AllByRecursion as All}
+use Rattle.std.specs.List.{flat_map, AllByRecursion}
 use Rattle.std.proofs.lemmas.List.{drop-drop, append_assoc, drop_all, length-take, length-drop, take_at}
 use Rattle.std.proofs.ByRecursion.{All-weaker}
 use Rattle.std.proofs.lemmas.Bool.{cases_Bool, eq-eqb, eqb-true, true≢false}
@@ -15,15 +15,15 @@ use Rattle.segmented.proofs.Coding.{length-segments, tags_segments, length-block
 
 -- what has other tags is passed over
 module _ (t : ℕ) where
-  pub oldest_other : (s v : List Message) → All (λ x. eqb x.tag t ≡ false) s → oldest t (s ++ v) ≡ oldest t v
+  pub oldest_other : (s v : List Message) → AllByRecursion (λ x. eqb x.tag t ≡ false) s → oldest t (s ++ v) ≡ oldest t v
   oldest_other [] v h = refl
   oldest_other (x ∷ s) v h = rw h.0 (oldest_other s v h.1)
 
-  without_other : (s v : List Message) → All (λ x. eqb x.tag t ≡ false) s → without t (s ++ v) ≡ s ++ without t v
+  without_other : (s v : List Message) → AllByRecursion (λ x. eqb x.tag t ≡ false) s → without t (s ++ v) ≡ s ++ without t v
   without_other [] v h = refl
   without_other (x ∷ s) v h = rw h.0 (ap (λ l. x ∷ l) (without_other s v h.1))
 
-  without_n_other : (k : ℕ) (s v : List Message) → All (λ x. eqb x.tag t ≡ false) s → without_n t k (s ++ v) ≡ s ++ without_n t k v
+  without_n_other : (k : ℕ) (s v : List Message) → AllByRecursion (λ x. eqb x.tag t ≡ false) s → without_n t k (s ++ v) ≡ s ++ without_n t k v
   without_n_other zero s v h = refl
   without_n_other (suc k) s v h = ap (without t) (without_n_other k s v h) ∙ without_other s (without_n t k v) h
 
@@ -37,7 +37,7 @@ module _ (t : ℕ) where
   without_n_absent (suc k) ms e = ap (without t) (without_n_absent k ms e) ∙ without_absent t ms e
 
   -- what has the tag goes from the front
-  without_n_same : (k : ℕ) (s v : List Message) → All (λ x. x.tag ≡ t) s → k ≤ length s → without_n t k (s ++ v) ≡ drop k s ++ v
+  without_n_same : (k : ℕ) (s v : List Message) → AllByRecursion (λ x. x.tag ≡ t) s → k ≤ length s → without_n t k (s ++ v) ≡ drop k s ++ v
   without_n_same zero s v h l = refl
   without_n_same (suc k) [] v h l = absurd (too_many l)
     where
@@ -77,10 +77,10 @@ some_same : {A : Type 0} (x y : A) → Some x ≡ Some y → x ≡ y
 some_same x y e = cc
 
 module _ (lim t : ℕ) (some : 0 < lim) where
-  others : (x : Message) → eqb x.tag t ≡ false → All (λ s. eqb s.tag t ≡ false) (segments lim x)
+  others : (x : Message) → eqb x.tag t ≡ false → AllByRecursion (λ s. eqb s.tag t ≡ false) (segments lim x)
   others x e = All-weaker (λ s. s.tag ≡ x.tag) (λ s. eqb s.tag t ≡ false) (λ s q. ap (λ y. eqb y t) q ∙ e) (segments lim x) (tags_segments lim some x)
 
-  same_tags : (x : Message) → eqb x.tag t ≡ true → All (λ s. s.tag ≡ t) (segments lim x)
+  same_tags : (x : Message) → eqb x.tag t ≡ true → AllByRecursion (λ s. s.tag ≡ t) (segments lim x)
   same_tags x e = All-weaker (λ s. s.tag ≡ x.tag) (λ s. s.tag ≡ t) (λ s q. q ∙ eqb-true x.tag t e) (segments lim x) (tags_segments lim some x)
 
   pub find_none : (ms : List Message) → oldest t ms ≡ None → oldest t (flat_map (segments lim) ms) ≡ None
@@ -128,7 +128,7 @@ module _ (lim t : ℕ) (some : 0 < lim) where
           ∙ ap (λ l. segments lim x ++ l) (rest (rw q at e))
           ∙ rw q refl
 
-pub oldest_all : (P : Message → Type 0) (t : ℕ) (ms : List Message) (m : Message) → All P ms → oldest t ms ≡ Some m → P m
+pub oldest_all : (P : Message → Type 0) (t : ℕ) (ms : List Message) (m : Message) → AllByRecursion P ms → oldest t ms ≡ Some m → P m
 oldest_all P t [] m h e = let z : ◌≡◌ {A = ℕ} 0 1 = cc in absurd (omega arith)
 oldest_all P t (x ∷ ms) m h e = by (oldest_all P t ms m h.1) (cases_Bool (eqb x.tag t))
   where
@@ -136,11 +136,11 @@ oldest_all P t (x ∷ ms) m h e = by (oldest_all P t ms m h.1) (cases_Bool (eqb 
     by rest (inl q) = let r = rw q at e in subst P (some_same x m r) h.0
     by rest (inr q) = rest (rw q at e)
 
-pub all_without : (P : Message → Type 0) (t : ℕ) (ms : List Message) → All P ms → All P (without t ms)
+pub all_without : (P : Message → Type 0) (t : ℕ) (ms : List Message) → AllByRecursion P ms → AllByRecursion P (without t ms)
 all_without P t [] h = tt
 all_without P t (x ∷ ms) h = by (eqb x.tag t) (all_without P t ms h.1)
   where
-    by : (u : Bool) → All P (without t ms) → All P (cond u ms (x ∷ without t ms))
+    by : (u : Bool) → AllByRecursion P (without t ms) → AllByRecursion P (cond u ms (x ∷ without t ms))
     by true rest = h.1
     by false rest = (h.0, rest)
 

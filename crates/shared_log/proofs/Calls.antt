@@ -1,7 +1,7 @@
 -- What a log stands for after each call.
 use Rattle.std.proofs.Common.{◌≡◌, ℕ, suc, ◌+◌, ◌-◌, ◌<◌, ◌≤◌, min, Bool, true, false, cond, not, leb, ◌⊎◌, List, [], ◌∷◌, ◌++◌, length, get_or, take, drop, set, Some, filter, sym, refl, ap, ◌∙◌, subst, ap₂, inl, inr, arith}
 use mathlib.Core.Path.{fun_ext}
-use Rattle.std.specs.List.{HoldsAt, remove, AllByRecursion as All}
+use Rattle.std.specs.List.{HoldsAt, remove, AllByRecursion}
 use Rattle.std.proofs.lemmas.List.{length-set, length-take, length-take-le, take_more_set, take-append-drop, take_all, set_split, take_at, set-append_left, get_or-take}
 use Rattle.std.proofs.ByRecursion.{All-push, All-get_or}
 use Rattle.std.proofs.lemmas.List.Sums.{length-filter, count_by-le-length}
@@ -110,13 +110,13 @@ module _ (log : Log) (s : LogSound log) where
           most = s.most;
           within = simp length-set s.within;
           fits = omega arith;
-          good = subst (All (Good p)) (sym grown) (All-push (Good p) live (record_of a b t ws block) s.good (record { pair = pair; brief = h; four = four }));
+          good = subst (AllByRecursion (Good p)) (sym grown) (All-push (Good p) live (record_of a b t ws block) s.good (record { pair = pair; brief = h; four = four }));
           ordered = subst Ordered (sym grown) (ordered_sent live (record_of a b t ws block) refl s.ordered);
         }
 
   -- a carry, with the oldest under way at the place i
   module _ (a b i : ℕ) (d : Record) (pair : pair_ok p a b ≡ true) (inside : i < length live)
-      (before : All (λ r. is_under a b r ≡ false) (take i live)) (here : HoldsAt (λ r. is_under a b r ≡ true) live i)
+      (before : AllByRecursion (λ r. is_under a b r ≡ false) (take i live)) (here : HoldsAt (λ r. is_under a b r ≡ true) live i)
     where
       abbrev x : Record
       x = get_or live i d
@@ -145,13 +145,13 @@ module _ (log : Log) (s : LogSound log) where
       marks : take used (set rs i (marked (get_or rs i d))) ≡ front ++ (marked x ∷ back)
       marks = take-set_in used rs i (marked (get_or rs i d)) (omega (arith, s.fits, s.within)) i_used ∙ ap (λ r. front ++ (marked r ∷ back)) same_x
 
-      none_behind : All (λ r. is_arrived a b r ≡ false) back
+      none_behind : AllByRecursion (λ r. is_arrived a b r ≡ false) back
       none_behind =
           let way = x_way front x back a b before (here d) in
           let q = (and_parts (of_pair a b x) (not x.arrived) (here d)).0 in
           let e = and_parts _ _ q in
-          subst (λ (k : ℕ). All (λ r. is_arrived a k r ≡ false) back) (eqb-true x.to b e.1)
-          (subst (λ (k : ℕ). All (λ r. is_arrived k x.to r ≡ false) back) (eqb-true x.from a e.0)
+          subst (λ (k : ℕ). AllByRecursion (λ r. is_arrived a k r ≡ false) back) (eqb-true x.to b e.1)
+          (subst (λ (k : ℕ). AllByRecursion (λ r. is_arrived k x.to r ≡ false) back) (eqb-true x.from a e.0)
           (ordered_after front x back (subst Ordered (sym whole) s.ordered) way))
 
       pub log_carried : log_network p room (take used (set rs i (marked (get_or rs i d)))) ≡ after_carry net a b
@@ -169,14 +169,14 @@ module _ (log : Log) (s : LogSound log) where
         most = s.most;
         within = simp length-set s.within;
         fits = s.fits;
-        good = subst (All (Good p)) (sym marks) (good_carried p front x back (subst (All (Good p)) (sym whole) s.good));
+        good = subst (AllByRecursion (Good p)) (sym marks) (good_carried p front x back (subst (AllByRecursion (Good p)) (sym whole) s.good));
         ordered = subst Ordered (sym marks)
             (ordered_carried a b front x back before (and_parts (of_pair a b x) (not x.arrived) (here d)).0 (subst Ordered (sym whole) s.ordered));
       }
 
   -- a take, with the oldest that arrived with the tag at the place i
   module _ (a b t i : ℕ) (d : Record) (inside : i < length live)
-      (before : All (λ r. is_tagged a b t r ≡ false) (take i live)) (here : HoldsAt (λ r. is_tagged a b t r ≡ true) live i)
+      (before : AllByRecursion (λ r. is_tagged a b t r ≡ false) (take i live)) (here : HoldsAt (λ r. is_tagged a b t r ≡ true) live i)
     where
       abbrev y : Record
       y = get_or live i d
@@ -194,8 +194,8 @@ module _ (log : Log) (s : LogSound log) where
           (under_taken y (drop (i + 1) live) a b t (here d) (take i live) ∙ ap log_under halves)
           (arrived_taken y (drop (i + 1) live) a b t (here d) (take i live) before ∙ ap (λ l. put (log_arrived l) a b (without t (log_arrived l a b))) halves)
 
-      pub log_taken_good : All (Good p) (remove live i)
-      log_taken_good = subst (All (Good p)) (sym (removed_is live i)) (good_taken p (take i live) y (drop (i + 1) live) (subst (All (Good p)) (sym halves) s.good))
+      pub log_taken_good : AllByRecursion (Good p) (remove live i)
+      log_taken_good = subst (AllByRecursion (Good p)) (sym (removed_is live i)) (good_taken p (take i live) y (drop (i + 1) live) (subst (AllByRecursion (Good p)) (sym halves) s.good))
 
       pub log_taken_ordered : Ordered (remove live i)
       log_taken_ordered = subst Ordered (sym (removed_is live i)) (ordered_taken (take i live) y (drop (i + 1) live) (subst Ordered (sym halves) s.ordered))
@@ -224,7 +224,7 @@ module _ (log : Log) (s : LogSound log) where
           most = s.most;
           within = omega (arith, long, s.within);
           fits = omega (arith, fewer, s.fits);
-          good = subst (All (Good p)) (sym closed) log_taken_good;
+          good = subst (AllByRecursion (Good p)) (sym closed) log_taken_good;
           ordered = subst Ordered (sym closed) log_taken_ordered;
         }
 

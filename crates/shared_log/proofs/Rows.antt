@@ -1,7 +1,7 @@
 -- What a row of records stands for after a send, a carry and a take.
 use Rattle.std.proofs.Common.{◌≡◌, ℕ, ◌+◌, Bool, true, false, cond, not, ◌&&◌, eqb, ◌⊎◌, List, [], ◌∷◌, ◌++◌, map, length, filter, sym, refl, ap, ◌∙◌, inl, inr, arith}
 use mathlib.Core.Path.{fun_ext}
-use Rattle.std.specs.List.{AllByRecursion as All}
+use Rattle.std.specs.List.{AllByRecursion}
 use Rattle.std.proofs.lemmas.List.{append-nil}
 use Rattle.std.proofs.ByRecursion.{All-append}
 use Rattle.std.proofs.lemmas.Bool.{cases_Bool, and_parts, and_left, and_right, and_from, eqb-true, eq-eqb, not-true, true≢false}
@@ -28,10 +28,10 @@ same_pair r = and_from (eqb r.from r.from) (eqb r.to r.to) (eq-eqb r.from r.from
 abbrev pub marked : Record → Record
 marked r = record { from = r.from; to = r.to; tag = r.tag; length = r.length; words = r.words; arrived = true }
 
-pub good_taken : (n : ℕ) (p : List Record) (x : Record) (q : List Record) → All (Good n) (p ++ (x ∷ q)) → All (Good n) (p ++ q)
+pub good_taken : (n : ℕ) (p : List Record) (x : Record) (q : List Record) → AllByRecursion (Good n) (p ++ (x ∷ q)) → AllByRecursion (Good n) (p ++ q)
 good_taken n = all_skip (Good n)
 
-pub good_carried : (n : ℕ) (p : List Record) (x : Record) (q : List Record) → All (Good n) (p ++ (x ∷ q)) → All (Good n) (p ++ (marked x ∷ q))
+pub good_carried : (n : ℕ) (p : List Record) (x : Record) (q : List Record) → AllByRecursion (Good n) (p ++ (x ∷ q)) → AllByRecursion (Good n) (p ++ (marked x ∷ q))
 good_carried n [] x q h = (record { pair = h.0.pair; brief = h.0.brief; four = h.0.four }, h.1)
 good_carried n (r ∷ p) x q h = (h.0, good_carried n p x q h.1)
 
@@ -49,7 +49,7 @@ arrived_sent rs r e =
 
 -- a carry: x is the first of p, x, q that is under way from a to b
 module _ (p : List Record) (x : Record) (q : List Record) (a b : ℕ)
-    (before : All (λ r. is_under a b r ≡ false) p) (here : is_under a b x ≡ true)
+    (before : AllByRecursion (λ r. is_under a b r ≡ false) p) (here : is_under a b x ≡ true)
   where
     x_pair : of_pair a b x ≡ true
     x_pair = (and_parts (of_pair a b x) (not x.arrived) here).0
@@ -69,7 +69,7 @@ module _ (p : List Record) (x : Record) (q : List Record) (a b : ℕ)
         stored.listed_skip message_of (is_under k l) p (marked x) q (and_right (of_pair k l x) false refl)
         ∙ sym (stored.listed_skip message_of (is_under k l) p x q (and_left (of_pair k l x) (not x.arrived) (other_pair x a b k l x_pair ne))))
 
-    pub arrived_carried : All (λ r. is_arrived a b r ≡ false) q → log_arrived (p ++ (marked x ∷ q)) ≡ put (log_arrived (p ++ (x ∷ q))) a b (log_arrived (p ++ (x ∷ q)) a b ++ (message_of x ∷ []))
+    pub arrived_carried : AllByRecursion (λ r. is_arrived a b r ≡ false) q → log_arrived (p ++ (marked x ∷ q)) ≡ put (log_arrived (p ++ (x ∷ q))) a b (log_arrived (p ++ (x ∷ q)) a b ++ (message_of x ∷ []))
     arrived_carried after =
         let q_none : log_arrived q a b ≡ [] = stored.listed_none message_of (is_arrived a b) q after in
         let old : log_arrived (p ++ (x ∷ q)) a b ≡ log_arrived p a b =
@@ -88,7 +88,7 @@ module _ (x : Record) (q : List Record) (a b t : ℕ) (here : is_tagged a b t x 
   x_arrived : is_arrived a b x ≡ true
   x_arrived = (and_parts (is_arrived a b x) (eqb x.tag t) here).0
 
-  pub arrived_taken : (p : List Record) → All (λ r. is_tagged a b t r ≡ false) p → log_arrived (p ++ q) ≡ put (log_arrived (p ++ (x ∷ q))) a b (without t (log_arrived (p ++ (x ∷ q)) a b))
+  pub arrived_taken : (p : List Record) → AllByRecursion (λ r. is_tagged a b t r ≡ false) p → log_arrived (p ++ q) ≡ put (log_arrived (p ++ (x ∷ q))) a b (without t (log_arrived (p ++ (x ∷ q)) a b))
   arrived_taken p h =
       put_is (log_arrived (p ++ (x ∷ q))) (log_arrived (p ++ q)) a b _ (sym (stored.without_tagged message_of (is_arrived a b) t x q here p h))
       (λ k l ne. sym (stored.listed_skip message_of (is_arrived k l) p x q (and_left (of_pair k l x) x.arrived
@@ -126,7 +126,7 @@ count_more a b r rs = by (of_pair a b r)
     by false = omega arith
 
 -- each good record counts once
-count_all : (p : ℕ) (rs : List Record) → All (Good p) rs → sum_below (λ a. sum_below (λ b. length (filter (of_pair a b) rs)) p) p ≡ length rs
+count_all : (p : ℕ) (rs : List Record) → AllByRecursion (Good p) rs → sum_below (λ a. sum_below (λ b. length (filter (of_pair a b) rs)) p) p ≡ length rs
 count_all p [] h = sum-nowhere (λ a b. 0) p (λ _ _. refl)
 count_all p (r ∷ rs) h =
     let ok = pair_parts p r.from r.to h.0.pair in
@@ -134,7 +134,7 @@ count_all p (r ∷ rs) h =
     ∙ sum-tables (hit r) (λ a b. length (filter (of_pair a b) rs)) p
     ∙ omega (arith, sum-entry r.from r.to 1 p ok.0 ok.1, count_all p rs h.1)
 
-pub waiting_is : (p room : ℕ) (rs : List Record) → All (Good p) rs → waiting (log_network p room rs) ≡ length rs
+pub waiting_is : (p room : ℕ) (rs : List Record) → AllByRecursion (Good p) rs → waiting (log_network p room rs) ≡ length rs
 unfolding waiting
 waiting_is p room rs h =
     sum-entries (between (log_network p room rs)) (λ a b. length (filter (of_pair a b) rs)) p (λ a b. listed_count a b rs)
@@ -152,11 +152,11 @@ pub ordered_taken : (p : List Record) (x : Record) (q : List Record) → Ordered
 ordered_taken [] x q o = o.1
 ordered_taken (r ∷ p) x q o = ((λ w. all_skip (λ s. is_arrived r.from r.to s ≡ false) p x q (o.0 w)), ordered_taken p x q o.1)
 
-pub ordered_after : (p : List Record) (x : Record) (q : List Record) → Ordered (p ++ (x ∷ q)) → x.arrived ≡ false → All (λ s. is_arrived x.from x.to s ≡ false) q
+pub ordered_after : (p : List Record) (x : Record) (q : List Record) → Ordered (p ++ (x ∷ q)) → x.arrived ≡ false → AllByRecursion (λ s. is_arrived x.from x.to s ≡ false) q
 ordered_after [] x q o w = o.0 w
 ordered_after (r ∷ p) x q o w = ordered_after p x q o.1 w
 
-pub ordered_carried : (a b : ℕ) (p : List Record) (x : Record) (q : List Record) → All (λ r. is_under a b r ≡ false) p → of_pair a b x ≡ true → Ordered (p ++ (x ∷ q)) → Ordered (p ++ (marked x ∷ q))
+pub ordered_carried : (a b : ℕ) (p : List Record) (x : Record) (q : List Record) → AllByRecursion (λ r. is_under a b r ≡ false) p → of_pair a b x ≡ true → Ordered (p ++ (x ∷ q)) → Ordered (p ++ (marked x ∷ q))
 ordered_carried a b [] x q h e o = ((λ w. absurd (true≢false w)), o.1)
 ordered_carried a b (r ∷ p) x q h e o = (
   (λ w. all_swap (λ s. is_arrived r.from r.to s ≡ false) p x (marked x) q (other w) (o.0 w)),

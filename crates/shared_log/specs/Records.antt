@@ -1,6 +1,6 @@
 -- Which network a row of records stands for.
 use Rattle.std.specs.Prelude.{◌≡◌, ℕ, ◌≤◌, min, Bool, true, false, cond, not, ◌&&◌, List, [], ◌∷◌, length, take, ◌==◌, nat_le}
-use Rattle.std.specs.List.{AllByRecursion as All}
+use Rattle.std.specs.List.{AllByRecursion}
 use Rattle.ranks.specs.Ranks.{most_ranks, pair_ok}
 use Rattle.transport.specs.Network.{Network, Message, message, quiet, nobody}
 use Rattle.transport.specs.Stored.{listed}
@@ -62,7 +62,7 @@ pub record Good (p : ℕ) (r : Record) : Type 0 where
 -- of one pair's messages those that have arrived come first
 abbrev pub Ordered : List Record → Type 0
 Ordered [] = Unit {0}
-Ordered (r ∷ rs) = (r.arrived ≡ false → All (λ s. is_arrived r.from r.to s ≡ false) rs) × Ordered rs
+Ordered (r ∷ rs) = (r.arrived ≡ false → AllByRecursion (λ s. is_arrived r.from r.to s ≡ false) rs) × Ordered rs
 
 -- a sound log: so many ranks, so much room, so many records in use, and the records
 pub record SoundLog (p room used : ℕ) (rs : List Record) : Type 0 where
@@ -71,7 +71,7 @@ pub record SoundLog (p room used : ℕ) (rs : List Record) : Type 0 where
   pub most : room ≤ most_records
   pub within : room ≤ length rs
   pub fits : used ≤ room
-  pub good : All (Good p) (take used rs)
+  pub good : AllByRecursion (Good p) (take used rs)
   pub ordered : Ordered (take used rs)
 
 -- why a full log refuses a message, when so many wait between the two ranks

@@ -1,6 +1,6 @@
 -- The messages of the stored places that pass a test, and the oldest of them with a tag.
 use Rattle.std.proofs.Common.{◌≡◌, ℕ, ◌≤◌, Bool, true, false, ◌&&◌, eqb, ◌⊎◌, List, [], ◌∷◌, ◌++◌, map, length, Some, None, filter, sym, refl, ap, ◌∙◌, inl, inr}
-use Rattle.std.specs.List.{AllByRecursion as All}
+use Rattle.std.specs.List.{AllByRecursion}
 use Rattle.std.proofs.lemmas.List.{map-append, append-nil}
 use Rattle.std.proofs.lemmas.List.Elements.{filter-append}
 use Rattle.std.proofs.ByRecursion.{All-map, all_kept_by}
@@ -26,7 +26,7 @@ module _ {X : Type 0} (message_of : X → Message) where
     unfolding listed
     listed_nil = refl
 
-    pub listed_none : (xs : List X) → All (λ x. test x ≡ false) xs → listed message_of test xs ≡ []
+    pub listed_none : (xs : List X) → AllByRecursion (λ x. test x ≡ false) xs → listed message_of test xs ≡ []
     listed_none [] h = listed_nil
     listed_none (x ∷ xs) h = listed_no x xs h.0 ∙ listed_none xs h.1
 
@@ -39,7 +39,7 @@ module _ {X : Type 0} (message_of : X → Message) where
     pub listed_at : (p : List X) (x : X) (q : List X) → test x ≡ true → listed message_of test (p ++ (x ∷ q)) ≡ listed message_of test p ++ (message_of x ∷ listed message_of test q)
     listed_at p x q e = listed_append p (x ∷ q) ∙ ap (λ l. listed message_of test p ++ l) (listed_yes x q e)
 
-    pub short_listed : (l : ℕ) (xs : List X) → All (λ x. length (message_of x).words ≤ l) xs → Short l (listed message_of test xs)
+    pub short_listed : (l : ℕ) (xs : List X) → AllByRecursion (λ x. length (message_of x).words ≤ l) xs → Short l (listed message_of test xs)
     unfolding listed
     short_listed l xs h = All-map (λ m. length m.words ≤ l) message_of (filter test xs) (all_kept_by test (λ x. length (message_of x).words ≤ l) xs h)
 
@@ -51,7 +51,7 @@ module _ {X : Type 0} (message_of : X → Message) where
       untagged : (r : X) → test r ≡ true → tagged r ≡ false → eqb (message_of r).tag t ≡ false
       untagged r e ne = rw e at ne
 
-      pub oldest_none : (rs : List X) → All (λ r. tagged r ≡ false) rs → oldest t (listed message_of test rs) ≡ None
+      pub oldest_none : (rs : List X) → AllByRecursion (λ r. tagged r ≡ false) rs → oldest t (listed message_of test rs) ≡ None
       oldest_none [] h = ap (oldest t) listed_nil
       oldest_none (r ∷ rs) h = by (oldest_none rs h.1) (cases_Bool (test r))
         where
@@ -60,7 +60,7 @@ module _ {X : Type 0} (message_of : X → Message) where
           by rest (inr e) = ap (oldest t) (listed_no r rs e) ∙ rest
 
       module _ (x : X) (q : List X) (here : tagged x ≡ true) where
-        pub oldest_tagged : (p : List X) → All (λ r. tagged r ≡ false) p → oldest t (listed message_of test (p ++ (x ∷ q))) ≡ Some (message_of x)
+        pub oldest_tagged : (p : List X) → AllByRecursion (λ r. tagged r ≡ false) p → oldest t (listed message_of test (p ++ (x ∷ q))) ≡ Some (message_of x)
         oldest_tagged [] h =
             let k = and_parts (test x) (eqb (message_of x).tag t) here in
             ap (oldest t) (listed_yes x q k.0) ∙ rw k.1
@@ -70,7 +70,7 @@ module _ {X : Type 0} (message_of : X → Message) where
             by rest (inl e) = ap (oldest t) (listed_yes r (p ++ (x ∷ q)) e) ∙ rw (untagged r e h.0) rest
             by rest (inr e) = ap (oldest t) (listed_no r (p ++ (x ∷ q)) e) ∙ rest
 
-        pub without_tagged : (p : List X) → All (λ r. tagged r ≡ false) p → without t (listed message_of test (p ++ (x ∷ q))) ≡ listed message_of test (p ++ q)
+        pub without_tagged : (p : List X) → AllByRecursion (λ r. tagged r ≡ false) p → without t (listed message_of test (p ++ (x ∷ q))) ≡ listed message_of test (p ++ q)
         without_tagged [] h =
             let k = and_parts (test x) (eqb (message_of x).tag t) here in
             ap (without t) (listed_yes x q k.0) ∙ rw k.1

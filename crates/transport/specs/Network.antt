@@ -1,7 +1,7 @@
 -- What a transport means: for each ordered pair of ranks the messages under way and those that have arrived, oldest first.
 -- Each call's answer, and the network that it leaves, is a function of the network that it finds and of its arguments.
 use Rattle.std.specs.Prelude.{◌≡◌, ℕ, ◌+◌, ◌≤◌, Bool, false, cond, not, ◌&&◌, List, [], ◌∷◌, ◌++◌, length, drop, Some, None, Ok, Err, Option, Result, ◌==◌, nat_le, nat_lt}
-use Rattle.std.specs.List.{AllByRecursion as All}
+use Rattle.std.specs.List.{AllByRecursion}
 use Rattle.ranks.specs.Ranks.{most_ranks, pair_ok, sum_below}
 use Rattle.transport.specs.declared.Fault.{Fault}
 use Rattle.transport.specs.declared.Fault.TheVariants.{BadPair, TooLong, PairFull, NoRoom, ShortBuffer}
@@ -186,7 +186,7 @@ taken_words n a b t buffer =
 
 -- none of the messages has more words than that
 abbrev pub Short : (limit : ℕ) → List Message → Type 0
-Short l ms = All (λ m. length m.words ≤ l) ms
+Short l ms = AllByRecursion (λ m. length m.words ≤ l) ms
 
 -- what the network of a sound transport is like, where its kind has that limit: the limit is at most 8 words, there are at most
 -- as many ranks as may be, no ranks go with no depth and no room, and messages wait only between two different ranks and keep the limit
