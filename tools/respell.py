@@ -18,7 +18,9 @@ SIG = re.compile(r"^\s*((?:(?:abbrev|pub|unfoldable|data|record|ruleset)\s+)*)([
 KIND = re.compile(r"\b(data|record)\b")
 TOKEN = re.compile(r"[^\s(){}\[\];,.⌜⌝⟦⟧`\"]+")
 # words of the library before which a dash joins two names
-WORDS = {"length", "take", "drop", "get_or", "map", "set", "filter", "All", "At", "sum", "replicate"}
+WORDS = {"length", "drop", "get_or", "map", "filter", "All", "At", "sum", "replicate"}
+# lemmas on the library's take and set: in our other names these are a call and a bit
+LISTS = {"take-nil", "take-least", "take-set-in", "take-set_in", "take-update", "take-written", "set-numbered", "set-update"}
 
 
 def files(endings):
@@ -106,7 +108,7 @@ def respelt(name, kinds):
     if "type" in kinds and (len(kinds) == 1 or name[:1].isupper()):
         return camel(name)
     head, dash, rest = name.partition("-")
-    if dash and (head in WORDS or head[:1].isupper()):
+    if dash and (head in WORDS or head[:1].isupper() or name in LISTS):
         return head + "-" + snake(rest)
     if name[:1].isupper():
         return name

@@ -157,8 +157,8 @@ module _ {O T E : Type 0} (op : O → Meaning E) (net : T → Network) (sound : 
 
 module _ {O T E : Type 0} (op : O → Meaning E) (net : T → Network) (sound : T → Type 0) (e : Engine O T E) (token : Token) (k r : ℕ) (from label : ℕ) (merge : Merge)
     (due : Due op net e token k r (Take from label merge)) (origin : Network) (h : Stands op net sound origin e) (j : Job E) (j_is : j ≡ get_or (pending_jobs e.jobs) k j) (st : RankState E) (st_is : st ≡ get_or (states j) r st) where
-  pub take-label : label < 16
-  take-label = turning.take-label e.name (op e.operation) origin (net e.transport) e.started (pending_jobs e.jobs) token.number k h.good h.same_ranks (seen_at op net sound e token k r (Take from label merge) due origin h).at j j_is r due.below st st_is token.name (shown_is op net sound e token k r (Take from label merge) due origin h j j_is st st_is) from label merge (next_at op net sound e token k r (Take from label merge) due origin h j j_is st st_is)
+  pub take_label : label < 16
+  take_label = turning.take_label e.name (op e.operation) origin (net e.transport) e.started (pending_jobs e.jobs) token.number k h.good h.same_ranks (seen_at op net sound e token k r (Take from label merge) due origin h).at j j_is r due.below st st_is token.name (shown_is op net sound e token k r (Take from label merge) due origin h j j_is st st_is) from label merge (next_at op net sound e token k r (Take from label merge) due origin h j j_is st st_is)
 
   pub pair : apart (net e.transport).ranks from r ≡ true
   pair = turning.pair e.name (op e.operation) origin (net e.transport) e.started (pending_jobs e.jobs) token.number k h.good h.same_ranks (seen_at op net sound e token k r (Take from label merge) due origin h).at j j_is r due.below st st_is token.name (shown_is op net sound e token k r (Take from label merge) due origin h j j_is st st_is) from label merge (next_at op net sound e token k r (Take from label merge) due origin h j j_is st st_is)

@@ -20,7 +20,7 @@ use Rattle.machine.specs.Sound.{JobSound, Good}
 use Rattle.machine.proofs.Jobs.{found}
 use Rattle.machine.proofs.Places.{moved_at}
 use Rattle.machine.proofs.Steps.{turn_sends, turn_takes, turn_waits}
-use Rattle.machine.proofs.Crowd.{sendable, fitting, take-apart}
+use Rattle.machine.proofs.Crowd.{sendable, fitting, take_apart}
 use Rattle.machine.proofs.Clocks.{arrival_small, departure_small, rounds_few}
 use Rattle.machine.proofs.Turn.{sent_apart}
 use Rattle.machine.proofs.Keep.{width_fits, some_pending}
@@ -243,8 +243,8 @@ module _ {E : Type 0} where
             here_take : get_elem? (actions net.ranks (job_of j) r) (rank_of m (job_of j) r).done ≡ some (Take from label merge)
             here_take = nth_some (actions net.ranks (job_of j) r) (rank_of m (job_of j) r).done (Take from label merge) (next_is (Some (Take from label merge)) next_take)
 
-            pub take-label : label < 16
-            take-label =
+            pub take_label : label < 16
+            take_label =
                 job_sound.plan.labels_fit r below (Take from label merge) (record {
                   before = acts_done m net.ranks (job_of j) r;
                   behind = drop (suc (rank_of m (job_of j) r).done) (actions net.ranks (job_of j) r);
@@ -252,7 +252,7 @@ module _ {E : Type 0} where
                 })
 
             pub pair : apart net.ranks from r ≡ true
-            pair = take-apart machine_now good n r (job_of j) job_is below from label merge here_take
+            pair = take_apart machine_now good n r (job_of j) job_is below from label merge here_take
 
             fits : (words : List ℕ) → oldest (tag_of n label) (net.arrived from r) ≡ some words → Fitting machine_now words
             fits words e =

@@ -3,7 +3,7 @@ use Rattle.std.proofs.Common.{◌≡◌, ℕ, ◌+◌, ◌-◌, ◌≤◌, Bool,
 use Rattle.std.specs.List.{AllByRecursion}
 use lib.Seq.{take-append-le}
 use Rattle.operation.specs.Meaning.{Meaning, Packing}
-use Rattle.transport.specs.Network.{Network, Message, value, none, refused, taking, word_count, oldest, take-reply, taken_words, written, Shaped}
+use Rattle.transport.specs.Network.{Network, Message, value, none, refused, taking, word_count, oldest, take_reply, taken_words, written, Shaped}
 use Rattle.ranks.specs.Ranks.{pair_ok}
 use Rattle.transport.proofs.Replies.{take_found, taken_found}
 use Rattle.engine_parts.specs.Mail.{Sent, Legible, stamped, read_words}
@@ -32,19 +32,19 @@ counted_some (Some i) None k = let z : ◌≡◌ {A = ℕ} 0 1 = cc in absurd (o
 counted_some (Some i) (Some x) k = refl
 
 module _ {E : Type 0} (m : Meaning E) (n : Network) (a b t : ℕ) (buffer : List ℕ) (pair : pair_ok n.ranks a b ≡ true) (enough : n.limit ≤ length buffer) where
-  pub take-refuses_not : (f : ℕ) → refused f ≡ take-reply n a b t (length buffer) → ⊥
-  take-refuses_not f e = counted_refuses_not f (oldest t (n.arrived a b)) (e ∙ take_found n a b t buffer pair enough)
+  pub take_refuses_not : (f : ℕ) → refused f ≡ take_reply n a b t (length buffer) → ⊥
+  take_refuses_not f e = counted_refuses_not f (oldest t (n.arrived a b)) (e ∙ take_found n a b t buffer pair enough)
 
-  pub take-finds_none : none ≡ take-reply n a b t (length buffer) → oldest t (n.arrived a b) ≡ None
-  take-finds_none e = by (oldest t (n.arrived a b)) (e ∙ take_found n a b t buffer pair enough)
+  pub take_finds_none : none ≡ take_reply n a b t (length buffer) → oldest t (n.arrived a b) ≡ None
+  take_finds_none e = by (oldest t (n.arrived a b)) (e ∙ take_found n a b t buffer pair enough)
     where
       by : (o : Option Message) → none ≡ word_count o → o ≡ None
       by None k = refl
       by (Some x) k = let z : ◌≡◌ {A = ℕ} 0 1 = cc in absurd (omega arith)
 
-  pub take-finds : (size : ℕ) (out : List ℕ) → Legible m (oldest t (n.arrived a b)) → value size ≡ take-reply n a b t (length buffer)
+  pub take_finds : (size : ℕ) (out : List ℕ) → Legible m (oldest t (n.arrived a b)) → value size ≡ take_reply n a b t (length buffer)
       → out ≡ taken_words n a b t buffer → Found m (oldest t (n.arrived a b)) size out
-  take-finds size out legible e w =
+  take_finds size out legible e w =
       by (oldest t (n.arrived a b)) legible (e ∙ take_found n a b t buffer pair enough) (w ∙ taken_found n a b t buffer pair enough)
     where
       by : (o : Option Message) → Legible m o → value size ≡ word_count o → out ≡ written o buffer → Found m o size out

@@ -3,7 +3,7 @@ use Rattle.std.proofs.Common.{◌≡◌, ℕ, ◌+◌, ◌<◌, ◌≤◌, Bool,
 use mathlib.Core.Path.{fun_ext}
 use Rattle.std.proofs.lemmas.Bool.{cases_Bool, and_parts, and_from, and_left, and_right, ne_eqb, eq-eqb, eqb-true, eqb-false, lt-ltb, true≢false}
 use Rattle.transport.specs.declared.Fault.TheVariants.{BadPair, TooLong, PairFull, NoRoom, ShortBuffer}
-use Rattle.transport.specs.Network.{Network, Message, Reply, refused, done, none, value, refuse_if, between, waiting, put, with_lists, between_reply, send_reply, sent, when_done, after_send, carry_reply, carried, after_carry, may_take, take-reply, after_take, taken_words, word_count, written, oldest, without, Shaped}
+use Rattle.transport.specs.Network.{Network, Message, Reply, refused, done, none, value, refuse_if, between, waiting, put, with_lists, between_reply, send_reply, sent, when_done, after_send, carry_reply, carried, after_carry, may_take, take_reply, after_take, taken_words, word_count, written, oldest, without, Shaped}
 use Rattle.ranks.specs.Ranks.{most_ranks, pair_ok, sum_below}
 use Rattle.ranks.proofs.Sums.{sum_same, sum_zeros}
 use Rattle.transport.proofs.Pairs.{pair_parts}
@@ -227,8 +227,8 @@ module _ (lim c : ℕ) (table : List ℕ) (n : Network) (shape : Shaped lim n) (
       may_same : (size : ℕ) → may_take n (at i) (at j) size ≡ may_take above i j size
       may_same size = ap (λ b. b && leb n.limit size) (there ∙ sym pair)
 
-      pub take_same : (size : ℕ) → take-reply n (at i) (at j) t size ≡ take-reply above i j t size
-      unfolding take-reply
+      pub take_same : (size : ℕ) → take_reply n (at i) (at j) t size ≡ take_reply above i j t size
+      unfolding take_reply
       take_same size =
           ap₂ (λ b l. refuse_if (not b) BadPair (refuse_if (ltb size n.limit) ShortBuffer (word_count (oldest t l)))) (there ∙ sym pair) (sym arrived_here)
 

@@ -235,14 +235,14 @@ module _ {E : Type 0} where
         short = omega (arith, limit_fits s fits, good.sound.same_limit);
       }
 
-  pub take-apart : (s : Plain E) → Good s → (n r : ℕ) (job : Job E) → numbered n s.jobs ≡ some job → r < s.now.ranks → (from label : ℕ) (merge : Merge)
+  pub take_apart : (s : Plain E) → Good s → (n r : ℕ) (job : Job E) → numbered n s.jobs ≡ some job → r < s.now.ranks → (from label : ℕ) (merge : Merge)
       → get_elem? (actions s.now.ranks job r) (rank_of s.meaning job r).done ≡ some (Take from label merge)
       → apart s.now.ranks from r ≡ true
-  take-apart s good n r job at below from label merge here =
+  take_apart s good n r job at below from label merge here =
       let m = s.meaning in
       let p = s.now.ranks in
       let sound : JobSound m p (waiting s.now) job = (found n s.jobs job at).all_have (JobSound m p (waiting s.now)) good.sound.jobs_sound in
-      let there = sound.plan.solved.take-rank from r label merge below (record {
+      let there = sound.plan.solved.take_rank from r label merge below (record {
         before = acts_done m p job r;
         behind = drop (suc (rank_of m job r).done) (actions p job r);
         split = (next (actions p job r) (rank_of m job r).done (Take from label merge) here).split;
@@ -281,9 +281,9 @@ module _ {E : Type 0} (m : Meaning E) (p : ℕ) (net : Network) (job : Job E) (h
   label_same : (h.flight from r).label ≡ label
   label_same =
       let solved = h.plan.solved in
-      let there = solved.take-rank from r label merge below taking in
+      let there = solved.take_rank from r label merge below taking in
       let one = (h.flight from r).label_right (omega arith) in
-      let two = solved.take-met from r label merge below taking in
+      let two = solved.take_met from r label merge below taking in
       let same : one.before ≡ two.before = solved.send_once from r (h.flight from r).label label there.0 one two in
       let lists : one.before ++ (Send r (h.flight from r).label ∷ one.behind) ≡ one.before ++ (Send r label ∷ two.behind)
       = sym one.split ∙ two.split ∙ ap (λ l. l ++ (Send r label ∷ two.behind)) (sym same) in

@@ -65,7 +65,7 @@ module _ {E : Type 0} {join : E → E → E} {p : ℕ} {programme : ℕ → List
           let s = stand_taken a (take d (programme r)) (omega arith) in
           let whole : programme r ≡ s.2.before ++ (Take a s.0 s.1 ∷ (s.2.behind ++ drop d (programme r)))
           = sym (take-append-drop d (programme r)) ∙ ap (λ l. l ++ drop d (programme r)) s.2.split ∙ append_assoc s.2.before (Take a s.0 s.1 ∷ s.2.behind) (drop d (programme r)) in
-          let same = solved.take-once a r label s.0 m s.1 below
+          let same = solved.take_once a r label s.0 m s.1 below
           (record { before = take d (programme r); behind = drop (suc d) (programme r); split = here.split })
           (record { before = s.2.before; behind = s.2.behind ++ drop d (programme r); split = whole }) in
           absurd (omega (arith, ap length same, ap length s.2.split, length-append s.2.before (Take a s.0 s.1 ∷ s.2.behind)))
@@ -84,7 +84,7 @@ module _ {E : Type 0} {join : E → E → E} {p : ℕ} {programme : ℕ → List
 
   from_within : (a d label : ℕ) (m : Merge) → get_elem? (programme r) d ≡ some (Take a label m) → (a < p) × (a ≡ r → ⊥)
   from_within a d label m e =
-      solved.take-rank a r label m below (record { before = take d (programme r); behind = drop (suc d) (programme r); split = (next (programme r) d (Take a label m) e).split })
+      solved.take_rank a r label m below (record { before = take d (programme r); behind = drop (suc d) (programme r); split = (next (programme r) d (Take a label m) e).split })
 
   one_take : (a d : ℕ) → takes_from a (take d (programme r)) ≤ 1
   one_take a zero = omega arith

@@ -21,7 +21,7 @@ use Rattle.machine.proofs.Jobs.{found, shown_found}
 use Rattle.machine.proofs.Keep.{width_fits, some_pending}
 use Rattle.machine.proofs.Turn.{mail_took}
 use Rattle.machine.proofs.Kept.{first_take}
-use Rattle.machine.proofs.Crowd.{findable, take-apart}
+use Rattle.machine.proofs.Crowd.{findable, take_apart}
 use Rattle.machine.proofs.Steps.{turn_sends, turn_takes, carry_done}
 
 -- not all pass
@@ -97,7 +97,7 @@ module _ {E : Type 0} (s : Plain E) (good : Good s) (number : ℕ) (job : Job E)
                 (mail_took s.meaning p s.now job sound r below good.lawful narrow next.from next.label next.merge words.0 here words.1)),
           )
       go (x ∷ l) e =
-          let pair = take-apart s good number r job pending below next.from next.label next.merge here in
+          let pair = take_apart s good number r job pending below next.from next.label next.merge here in
           inr (next.from, r, ap (λ x. x.0) (carry_done s next.from r pair) ∙ ap (λ l. carried (some_carried l)) e)
 
   goes : idle_ranks s.meaning p job < p → Next

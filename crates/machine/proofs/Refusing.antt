@@ -9,7 +9,7 @@ use Rattle.programme.specs.Rank.{Rank, Mail}
 use Rattle.machine.specs.Operation.{Meaning}
 use Rattle.machine.specs.Network.{Network, apart, oldest}
 use Rattle.machine.specs.Job.{Job, rank_of, actions}
-use Rattle.machine.specs.Plain.{Plain, Call, Answer, Refusal, start, turn, carry, look, end, abandon, refused, no_job, bad_rank, bad_pair, step, when, first_refusal, refusals, of_token, root_for, end_refusals, shown, after_start, after_carry, after_look, after_end, end_shown, after_abandon, answer_of, action_move, take-move, mail_of, tag_of}
+use Rattle.machine.specs.Plain.{Plain, Call, Answer, Refusal, start, turn, carry, look, end, abandon, refused, no_job, bad_rank, bad_pair, step, when, first_refusal, refusals, of_token, root_for, end_refusals, shown, after_start, after_carry, after_look, after_end, end_shown, after_abandon, answer_of, action_move, take_move, mail_of, tag_of}
 use Rattle.machine.specs.Laws.{RefusesFirst}
 use Rattle.machine.proofs.Steps.{turn_no_job, turn_bad_rank}
 
@@ -19,15 +19,15 @@ only_one (some f) = refl
 
 module _ {E : Type 0} where
   -- a rank's action is never refused
-  take-answers : (m : Meaning E) (from tag : ℕ) (merge : Merge) (x : Rank E) (o : Option (Mail E)) (f : Refusal) → answer_of (take-move m from tag merge x o) ≡ refused f → ⊥
-  take-answers m from tag merge x none f e = let z : ◌≡◌ {A = ℕ} 0 1 = cc in omega arith
-  take-answers m from tag merge x (some mail) f e = let z : ◌≡◌ {A = ℕ} 0 1 = cc in omega arith
+  take_answers : (m : Meaning E) (from tag : ℕ) (merge : Merge) (x : Rank E) (o : Option (Mail E)) (f : Refusal) → answer_of (take_move m from tag merge x o) ≡ refused f → ⊥
+  take_answers m from tag merge x none f e = let z : ◌≡◌ {A = ℕ} 0 1 = cc in omega arith
+  take_answers m from tag merge x (some mail) f e = let z : ◌≡◌ {A = ℕ} 0 1 = cc in omega arith
 
   action_answers : (m : Meaning E) (net : Network) (number r : ℕ) (x : Rank E) (o : Option Action) (f : Refusal) → answer_of (action_move m net number r x o) ≡ refused f → ⊥
   action_answers m net number r x none f e = let z : ◌≡◌ {A = ℕ} 0 1 = cc in omega arith
   action_answers m net number r x (some (Send to label)) f e = let z : ◌≡◌ {A = ℕ} 0 1 = cc in omega arith
   action_answers m net number r x (some (Take from label merge)) f e =
-      take-answers m from (tag_of number label) merge x (mail_of m (oldest (tag_of number label) (net.arrived from r))) f e
+      take_answers m from (tag_of number label) merge x (mail_of m (oldest (tag_of number label) (net.arrived from r))) f e
 
   turn_refuses : (s : Plain E) (name number r : ℕ) (o : Option (Job E)) → shown s name number ≡ o → (b : Bool) → ltb r s.now.ranks ≡ b → RefusesFirst s (turn name number r)
   turn_refuses s name number r none e b below = record {

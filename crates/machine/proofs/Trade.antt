@@ -11,7 +11,7 @@ use Rattle.programme.specs.Rank.{Rank, fresh}
 use Rattle.machine.specs.Operation.{Meaning}
 use Rattle.machine.specs.Network.{Network, put, without, oldest}
 use Rattle.machine.specs.Job.{Job, rank_of, actions}
-use Rattle.machine.specs.Plain.{Plain, Call, Answer, Move, stays, sends, takes, turn, step, moved, moved_ranks, moved_count, moved_job, after_move, answer_of, move_of, job_move, action_move, take-move, mail_of, tag_of, numbered, shown, refused, bad_rank}
+use Rattle.machine.specs.Plain.{Plain, Call, Answer, Move, stays, sends, takes, turn, step, moved, moved_ranks, moved_count, moved_job, after_move, answer_of, move_of, job_move, action_move, take_move, mail_of, tag_of, numbered, shown, refused, bad_rank}
 use Rattle.machine.specs.Record.{Entry, TurnOf, Follows}
 
 swap_cond : {A : Type 0} (p q : Bool) (x y z : A) → (p ≡ true → q ≡ true → ⊥) → cond p x (cond q y z) ≡ cond q y (cond p x z)
@@ -161,7 +161,7 @@ module _ {E : Type 0} (q r : ℕ) (differ : q ≡ r → ⊥) where
   action_kept m x net n at none = refl
   action_kept m x net n at (some (Send to label)) = refl
   action_kept m x net n at (some (Take from label merge)) =
-      ap (λ l. take-move m from (tag_of n label) merge at (mail_of m (oldest (tag_of n label) l))) (arrived_kept x net from)
+      ap (λ l. take_move m from (tag_of n label) merge at (mail_of m (oldest (tag_of n label) l))) (arrived_kept x net from)
 
   job_kept : (m : Meaning E) (k : ℕ) (x : Move E) (net : Network) (o : Option (Job E)) → job_move m (moved q x net) r (option_map (moved_job k q x) o) ≡ job_move m net r o
   job_kept m k x net none = refl

@@ -129,7 +129,7 @@ module _ {E : Type 0} (m : Meaning E) (p : ℕ) (net : Network) (job : Job E) (h
           behind = drop (suc (rank_of m job r).done) (actions p job r);
           split = (next (actions p job r) (rank_of m job r).done (Take from label merge) here).split;
         } in
-        let other = h.plan.solved.take-rank from r label merge below stood in
+        let other = h.plan.solved.take_rank from r label merge below stood in
         (other.0, other.1, h.plan.labels_fit r below (Take from label merge) stood)
 
     abbrev arriving : Message

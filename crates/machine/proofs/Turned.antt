@@ -9,7 +9,7 @@ use Rattle.programme.specs.declared.Merge.{Merge}
 use Rattle.programme.specs.Rank.{Rank, Mail, posted, after_send, after_take}
 use Rattle.machine.specs.Network.{oldest}
 use Rattle.machine.specs.Job.{Job, rank_of, actions}
-use Rattle.machine.specs.Plain.{Plain, Move, Answer, stays, sends, takes, move_of, job_move, action_move, take-move, mail_of, tag_of, message_of, numbered, shown, refused, bad_rank}
+use Rattle.machine.specs.Plain.{Plain, Move, Answer, stays, sends, takes, move_of, job_move, action_move, take_move, mail_of, tag_of, message_of, numbered, shown, refused, bad_rank}
 use Rattle.machine.specs.Record.{acts}
 use Rattle.machine.proofs.Jobs.{shown_found}
 
@@ -36,13 +36,13 @@ module _ {E : Type 0} where
       by_mail : (from label : ℕ) (merge : Merge) (words : List ℕ) → place ≡ some (Take from label merge)
           → oldest (tag_of job.number label) (s.now.arrived from r) ≡ some words
           → (o : Option (Mail E)) → mail_of s.meaning (some words) ≡ o
-          → Turned s number r (take-move s.meaning from (tag_of job.number label) merge x o)
+          → Turned s number r (take_move s.meaning from (tag_of job.number label) merge x o)
       by_mail from label merge words a w none e = idle _ refl
       by_mail from label merge words a w (some mail) e = taking job here within from label merge words mail a w e
 
       by_words : (from label : ℕ) (merge : Merge) → place ≡ some (Take from label merge)
           → (o : Option (List ℕ)) → oldest (tag_of job.number label) (s.now.arrived from r) ≡ o
-          → Turned s number r (take-move s.meaning from (tag_of job.number label) merge x (mail_of s.meaning o))
+          → Turned s number r (take_move s.meaning from (tag_of job.number label) merge x (mail_of s.meaning o))
       by_words from label merge a none e = idle _ refl
       by_words from label merge a (some words) e = by_mail from label merge words a e (mail_of s.meaning (some words)) refl
 

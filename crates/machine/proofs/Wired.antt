@@ -3,7 +3,7 @@ use Rattle.std.proofs.Common.{◌≡◌, ℕ, ◌/◌, ◌≤◌, true, not, Lis
 use mathlib.Core.Option.{Option, none, some}
 use Rattle.std.proofs.lemmas.Bool.{eq-eqb, not-false}
 use Rattle.programme.specs.Rank.{posted}
-use Rattle.transport.specs.Network.{done, value, send_reply, after_send, take-reply, after_take, carry_reply, after_carry}
+use Rattle.transport.specs.Network.{done, value, send_reply, after_send, take_reply, after_take, carry_reply, after_carry}
 use Rattle.machine.specs.Network.{Message, of_job, apart, waiting}
 use Rattle.machine.specs.Job.{rank_of}
 use Rattle.machine.specs.Plain.{Plain, Move, Refusal, sent, took, carried, answer_of, after_move, after_carry as carry_step, message_of, tag_of, when, bad_pair}
@@ -16,8 +16,8 @@ use Rattle.machine.proofs.Jobs.{found}
 use Rattle.machine.proofs.Keep.{width_fits, some_pending}
 use Rattle.machine.proofs.Turn.{sent_apart, took_apart}
 use Rattle.machine.proofs.Turned.{Turned, idle, sending, taking, turned}
-use Rattle.machine.proofs.Crowd.{sendable, take-apart}
-use Rattle.machine.proofs.Wires.{send_answers, send_leaves, take-finds, take-leaves, carry_answers, carry_leaves}
+use Rattle.machine.proofs.Crowd.{sendable, take_apart}
+use Rattle.machine.proofs.Wires.{send_answers, send_leaves, take_finds, take_leaves, carry_answers, carry_leaves}
 
 module _ {E : Type 0} (s : Plain E) (good : Good s) where
   sends_wired : (n r : ℕ) {move : Move E} → Turned s n r move → answer_of move ≡ sent
@@ -40,7 +40,7 @@ module _ {E : Type 0} (s : Plain E) (good : Good s) where
       absurd (omega arith)
 
   takes_wired : (n r : ℕ) {move : Move E} → Turned s n r move → answer_of move ≡ took → (buffer : List ℕ) → s.now.limit ≤ length buffer
-      → (from : ℕ) × (tag : ℕ) × (k : ℕ) × (tag / 16 ≡ n) × (take-reply s.now from r tag (length buffer) ≡ value k) × ((after_move s n r move).now ≡ after_take s.now from r tag (length buffer))
+      → (from : ℕ) × (tag : ℕ) × (k : ℕ) × (tag / 16 ≡ n) × (take_reply s.now from r tag (length buffer) ≡ value k) × ((after_move s n r move).now ≡ after_take s.now from r tag (length buffer))
   takes_wired n r (idle a quiet) e buffer long =
       let both = sym quiet ∙ ap acts e in
       let z : ◌≡◌ {A = ℕ} 0 1 = cc in
@@ -56,8 +56,8 @@ module _ {E : Type 0} (s : Plain E) (good : Good s) where
       let narrow = width_fits s (good.sound.fits (some_pending n s.jobs this.among)) in
       let tag : ℕ = tag_of job.number label in
       let mine : tag / 16 ≡ n = tag_job job.number label (took_apart m p s.now job sound r within good.lawful narrow from label merge words here words_are).2 ∙ this.number_is in
-      let pair = take-apart s good n r job at within from label merge here in
-      (from, tag, length words, mine, (take-finds s.now from r tag buffer pair long words words_are).0, sym (take-leaves s.now from r tag buffer pair long))
+      let pair = take_apart s good n r job at within from label merge here in
+      (from, tag, length words, mine, (take_finds s.now from r tag buffer pair long words words_are).0, sym (take_leaves s.now from r tag buffer pair long))
 
   carries_wired : (from to n : ℕ) (o : Option Refusal) → when (not (apart s.now.ranks from to)) bad_pair ≡ o → (carry_step s from to o).0 ≡ carried n
       → (carry_reply s.now from to ≡ value n) × ((carry_step s from to o).1.now ≡ after_carry s.now from to)

@@ -4,7 +4,7 @@ use mathlib.Core.Path.{fun_ext}
 use mathlib.Core.Option.{none, some}
 use Rattle.std.proofs.lemmas.Bool.{le-ltb, lt-leb, le-leb, and_from, cases_Bool}
 use Rattle.transport.specs.Network as transport
-use Rattle.transport.specs.Network.{Reply, refused, done, value, Shaped, between, send_reply, after_send, carry_reply, after_carry, take-reply, after_take, taken_words}
+use Rattle.transport.specs.Network.{Reply, refused, done, value, Shaped, between, send_reply, after_send, carry_reply, after_carry, take_reply, after_take, taken_words}
 use Rattle.machine.specs.Network.{Message, Network, put, with_lists, apart, waiting_in_all, with_sent, with_carried, with_taken, some_carried, oldest, without, WellMade}
 use Rattle.machine.specs.Plain.{Plain}
 use Rattle.machine.proofs.Crowd.{Sendable}
@@ -49,28 +49,28 @@ module _ (net : Network) (from to : ℕ) where
     may : transport.may_take net from to (length buffer) ≡ true
     may = and_from (apart net.ranks from to) (leb net.limit (length buffer)) pair (le-leb net.limit (length buffer) long)
 
-    pub take-leaves : after_take net from to tag (length buffer) ≡ with_taken from to tag net
+    pub take_leaves : after_take net from to tag (length buffer) ≡ with_taken from to tag net
     unfolding after_take
-    take-leaves = rw may
+    take_leaves = rw may
 
-    pub take-finds : (words : List ℕ) → oldest tag (net.arrived from to) ≡ some words
-        → (take-reply net from to tag (length buffer) ≡ value (length words)) × (taken_words net from to tag buffer ≡ words ++ drop (length words) buffer)
-    unfolding take-reply taken_words
-    take-finds words e = go (transport.oldest tag (net.arrived from to)) refl e
+    pub take_finds : (words : List ℕ) → oldest tag (net.arrived from to) ≡ some words
+        → (take_reply net from to tag (length buffer) ≡ value (length words)) × (taken_words net from to tag buffer ≡ words ++ drop (length words) buffer)
+    unfolding take_reply taken_words
+    take_finds words e = go (transport.oldest tag (net.arrived from to)) refl e
       where
         go : (o : Found Message) → transport.oldest tag (net.arrived from to) ≡ o → Rattle.machine.specs.Network.words_of o ≡ some words
-            → (take-reply net from to tag (length buffer) ≡ value (length words)) × (taken_words net from to tag buffer ≡ words ++ drop (length words) buffer)
+            → (take_reply net from to tag (length buffer) ≡ value (length words)) × (taken_words net from to tag buffer ≡ words ++ drop (length words) buffer)
         go None f g = let z : ◌≡◌ {A = ℕ} 0 1 = cc in absurd (omega arith)
         go (Some x) f g =
             let same : x.words ≡ words = cc in
             (rw (pair, le-ltb (length buffer) net.limit long, f) (ap (λ l. value (length l)) same), rw (may, f) (ap (λ l. l ++ drop (length l) buffer) same))
 
-    pub take-misses : oldest tag (net.arrived from to) ≡ none → (take-reply net from to tag (length buffer) ≡ Reply.none) × (taken_words net from to tag buffer ≡ buffer)
-    unfolding take-reply taken_words
-    take-misses e = go (transport.oldest tag (net.arrived from to)) refl e
+    pub take_misses : oldest tag (net.arrived from to) ≡ none → (take_reply net from to tag (length buffer) ≡ Reply.none) × (taken_words net from to tag buffer ≡ buffer)
+    unfolding take_reply taken_words
+    take_misses e = go (transport.oldest tag (net.arrived from to)) refl e
       where
         go : (o : Found Message) → transport.oldest tag (net.arrived from to) ≡ o → Rattle.machine.specs.Network.words_of o ≡ none
-            → (take-reply net from to tag (length buffer) ≡ Reply.none) × (taken_words net from to tag buffer ≡ buffer)
+            → (take_reply net from to tag (length buffer) ≡ Reply.none) × (taken_words net from to tag buffer ≡ buffer)
         go None f g = (rw (pair, le-ltb (length buffer) net.limit long, f), rw (may, f))
         go (Some x) f g = let z : ◌≡◌ {A = ℕ} 0 1 = cc in absurd (omega arith)
 

@@ -4,7 +4,7 @@ use Rattle.programme.specs.declared.Kind.{Kind}
 use Rattle.programme.specs.Formula.{rounds, messages}
 use Rattle.programme.specs.Label.{label_count}
 use Rattle.machine.specs.Operation.{Meaning, Lawful, Ok}
-use Rattle.transport.specs.Network.{done, value, send_reply, after_send, take-reply, after_take, carry_reply, after_carry}
+use Rattle.transport.specs.Network.{done, value, send_reply, after_send, take_reply, after_take, carry_reply, after_carry}
 use Rattle.machine.specs.Network.{Message, Network, of_job, WellMade}
 use Rattle.machine.specs.Job.{blocks, answer, packed}
 use Rattle.std.proofs.Math.Option.{none, some}
@@ -87,7 +87,7 @@ module _ {E : Type 0} where
         → (to : ℕ) × (message : Message) × (of_job number message ≡ true) × (send_reply s.now r to message.words ≡ done) × ((step s (turn name number r)).1.now ≡ after_send s.now r to message)
     -- with any buffer that holds the transport's longest message
     pub takes : (name number r : ℕ) → (step s (turn name number r)).0 ≡ took → (buffer : List ℕ) → s.now.limit ≤ length buffer
-        → (from : ℕ) × (tag : ℕ) × (k : ℕ) × (tag / label_count ≡ number) × (take-reply s.now from r tag (length buffer) ≡ value k) × ((step s (turn name number r)).1.now ≡ after_take s.now from r tag (length buffer))
+        → (from : ℕ) × (tag : ℕ) × (k : ℕ) × (tag / label_count ≡ number) × (take_reply s.now from r tag (length buffer) ≡ value k) × ((step s (turn name number r)).1.now ≡ after_take s.now from r tag (length buffer))
     pub carries : (from to n : ℕ) → (step s (carry from to)).0 ≡ carried n
         → (carry_reply s.now from to ≡ value n) × ((step s (carry from to)).1.now ≡ after_carry s.now from to)
 

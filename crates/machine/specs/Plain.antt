@@ -195,16 +195,16 @@ module _ {E : Type 0} where
   mail_of m (some (stamp ∷ block)) = stamped stamp (m.unpack block)
 
   -- a take, where the message asked for has arrived or not
-  abbrev pub take-move : Meaning E → (from tag : ℕ) → Merge → Rank E → Option (Mail E) → Move E
-  take-move m from tag merge x none = stays waits
-  take-move m from tag merge x (some mail) = takes from tag (after_take m.join merge mail x)
+  abbrev pub take_move : Meaning E → (from tag : ℕ) → Merge → Rank E → Option (Mail E) → Move E
+  take_move m from tag merge x none = stays waits
+  take_move m from tag merge x (some mail) = takes from tag (after_take m.join merge mail x)
 
   -- the action of a rank that holds x: none left, a send, or a take of the oldest message with its tag
   abbrev pub action_move : Meaning E → Network → (number r : ℕ) → Rank E → Option Action → Move E
   action_move m net number r x none = stays through
   action_move m net number r x (some (Send to label)) = sends to (message_of m number label (posted x)) (after_send x)
   action_move m net number r x (some (Take from label merge)) =
-      take-move m from (tag_of number label) merge x (mail_of m (oldest (tag_of number label) (net.arrived from r)))
+      take_move m from (tag_of number label) merge x (mail_of m (oldest (tag_of number label) (net.arrived from r)))
 
   -- rank r does its next action in a job
   abbrev pub job_move : Meaning E → Network → ℕ → Option (Job E) → Move E

@@ -22,17 +22,17 @@ pub mod_clear : (n k : ℕ) → bit n k ≡ false → n % 2 ^ suc k ≡ n % 2 ^ 
 mod_clear n k e = mod_next n k ∙ ap (λ (x : ℕ). x * 2 ^ k + n % 2 ^ k) (bit_clear n k e) ∙ omega arith
 
 -- a number with bit k clear, and the same with the bit set
-pub set-mod : (n k : ℕ) → (n + 2 ^ k) % 2 ^ k ≡ n % 2 ^ k
-set-mod n k = add-mod_right n (2 ^ k)
+pub set_mod : (n k : ℕ) → (n + 2 ^ k) % 2 ^ k ≡ n % 2 ^ k
+set_mod n k = add-mod_right n (2 ^ k)
 
-pub set-bit : (n k : ℕ) → bit n k ≡ false → bit (n + 2 ^ k) k ≡ true
-set-bit n k e = eq-eqb ((n + 2 ^ k) / 2 ^ k % 2) 1 (omega (arith, bit_clear n k e, add-div_right n (pow_pos k)))
+pub set_bit : (n k : ℕ) → bit n k ≡ false → bit (n + 2 ^ k) k ≡ true
+set_bit n k e = eq-eqb ((n + 2 ^ k) / 2 ^ k % 2) 1 (omega (arith, bit_clear n k e, add-div_right n (pow_pos k)))
 
 pub clear_bit : (n k : ℕ) → bit (n + 2 ^ k) k ≡ true → bit n k ≡ false
 clear_bit n k e = ne_eqb (n / 2 ^ k % 2) 1 (λ q. omega (arith, q, bit_set (n + 2 ^ k) k e, add-div_right n (pow_pos k)))
 
-pub set-le : (n k : ℕ) → bit n k ≡ true → 2 ^ k + n % 2 ^ k ≤ n
-set-le n k e = omega (arith, mod_set n k e, mod-le n (2 ^ suc k))
+pub set_le : (n k : ℕ) → bit n k ≡ true → 2 ^ k + n % 2 ^ k ≤ n
+set_le n k e = omega (arith, mod_set n k e, mod-le n (2 ^ suc k))
 
 -- the block of 2 ^ k numbers that holds n ends within every greater power above n
 pub block_ends : (n k j : ℕ) → n < 2 ^ (j + k) → n - n % 2 ^ k + 2 ^ k ≤ 2 ^ (j + k)
@@ -69,24 +69,24 @@ pub record Set (n k : ℕ) : Type 0 where
 pub when_clear : (n k : ℕ) → bit n k ≡ false → Clear n k
 when_clear n k e =
     let f : flip n k ≡ n + 2 ^ k = flip_clear n k e in
-    let o : bit (n + 2 ^ k) k ≡ true = set-bit n k e in
+    let o : bit (n + 2 ^ k) k ≡ true = set_bit n k e in
     record {
       is = e;
       flips = f;
       other = ap (λ (x : ℕ). bit x k) f ∙ o;
       back = ap (λ (x : ℕ). flip x k) f ∙ flip_set (n + 2 ^ k) k o ∙ omega arith;
-      rest = ap (λ (x : ℕ). x % 2 ^ k) f ∙ set-mod n k;
+      rest = ap (λ (x : ℕ). x % 2 ^ k) f ∙ set_mod n k;
       next = mod_clear n k e;
-      other_next = ap (λ (x : ℕ). x % 2 ^ suc k) f ∙ mod_set (n + 2 ^ k) k o ∙ omega (arith, set-mod n k);
+      other_next = ap (λ (x : ℕ). x % 2 ^ suc k) f ∙ mod_set (n + 2 ^ k) k o ∙ omega (arith, set_mod n k);
     }
 
 pub when_set : (n k : ℕ) → bit n k ≡ true → Set n k
 when_set n k e =
-    let l : 2 ^ k + n % 2 ^ k ≤ n = set-le n k e in
+    let l : 2 ^ k + n % 2 ^ k ≤ n = set_le n k e in
     let f : flip n k ≡ n - 2 ^ k = flip_set n k e in
     let g : n - 2 ^ k + 2 ^ k ≡ n = omega arith in
     let o : bit (n - 2 ^ k) k ≡ false = clear_bit (n - 2 ^ k) k (subst (λ (x : ℕ). bit x k ≡ true) (sym g) e) in
-    let r : (n - 2 ^ k) % 2 ^ k ≡ n % 2 ^ k = sym (set-mod (n - 2 ^ k) k) ∙ ap (λ (x : ℕ). x % 2 ^ k) g in
+    let r : (n - 2 ^ k) % 2 ^ k ≡ n % 2 ^ k = sym (set_mod (n - 2 ^ k) k) ∙ ap (λ (x : ℕ). x % 2 ^ k) g in
     record {
       is = e;
       flips = ap (λ (x : ℕ). x + 2 ^ k) f ∙ g;

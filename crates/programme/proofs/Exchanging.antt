@@ -197,22 +197,22 @@ send_swap_stands : (p n k : ℕ) → k < floor_log p → Stands (allreduce p (ra
 unfolding exchange_step
 send_swap_stands p n k l = swap_stands p n k (Send (rank_of p (flip n k)) k) l (stands_first (Send (rank_of p (flip n k)) k) (Take (rank_of p (flip n k)) k (cond (bit n k) Before After) ∷ []))
 
-take-swap_stands : (p n k : ℕ) → k < floor_log p → Stands (allreduce p (rank_of p n)) (Take (rank_of p (flip n k)) k (cond (bit n k) Before After))
+take_swap_stands : (p n k : ℕ) → k < floor_log p → Stands (allreduce p (rank_of p n)) (Take (rank_of p (flip n k)) k (cond (bit n k) Before After))
 unfolding exchange_step
-take-swap_stands p n k l =
+take_swap_stands p n k l =
     let t : Action = Take (rank_of p (flip n k)) k (cond (bit n k) Before After) in
     swap_stands p n k t l (stands_right (Send (rank_of p (flip n k)) k ∷ []) (t ∷ []) t (stands_first t []))
 
 send_in_stands : (p j : ℕ) → j < surplus p → Stands (allreduce p (2 * j)) (Send (rank_of p j) hand_in)
 send_in_stands p j h = rw (at_even p j h, rank_below p j h) (stands_first (Send (2 * j + 1) hand_in) (Take (2 * j + 1) hand_back Replace ∷ []))
 
-take-back_stands : (p j : ℕ) → j < surplus p → Stands (allreduce p (2 * j)) (Take (rank_of p j) hand_back Replace)
-take-back_stands p j h =
+take_back_stands : (p j : ℕ) → j < surplus p → Stands (allreduce p (2 * j)) (Take (rank_of p j) hand_back Replace)
+take_back_stands p j h =
     let t : Action = Take (2 * j + 1) hand_back Replace in
     rw (at_even p j h, rank_below p j h) (stands_right (Send (2 * j + 1) hand_in ∷ []) (t ∷ []) t (stands_first t []))
 
-take-in_stands : (p j : ℕ) → j < surplus p → Stands (allreduce p (rank_of p j)) (Take (2 * j) hand_in Before)
-take-in_stands p j h =
+take_in_stands : (p j : ℕ) → j < surplus p → Stands (allreduce p (rank_of p j)) (Take (2 * j) hand_in Before)
+take_in_stands p j h =
     let e : rank_of p j - 1 ≡ 2 * j = omega (arith, rank_below p j h) in
     subst (λ (x : ℕ). Stands (allreduce p (rank_of p j)) (Take x hand_in Before)) e
     (subst (λ (x : List Action). Stands x (Take (rank_of p j - 1) hand_in Before)) (sym (at_number p j))
@@ -420,13 +420,13 @@ module _ {E : Type 0} (proper : E → Bool) (unit : E) (join : E → E → E) (l
   send_rank a b label before (hands_in j h ea eb el _) = (omega (arith, rank_below p j h, surplus_splits p pos, surplus_lt p pos), λ e. omega (arith, rank_below p j h))
   send_rank a b label before (hands_back j h ea eb el _) = (omega (arith, rank_below p j h, surplus_splits p pos, surplus_lt p pos), λ e. omega (arith, rank_below p j h))
 
-  take-rank : (a b label : ℕ) (m : Merge) (before : List Action) → Took p b before a label m → (a < p) × (a ≡ b → ⊥)
-  take-rank a b label m before (swaps n k h l eb ea el _ _) = (
+  take_rank : (a b label : ℕ) (m : Merge) (before : List Action) → Took p b before a label m → (a < p) × (a ≡ b → ⊥)
+  take_rank a b label m before (swaps n k h l eb ea el _ _) = (
     rw ea (rank_lt p (flip n k) pos (flip_lt n k (floor_log p) l h)),
     (λ e. flip_other n k (rank_inj p n (flip n k) (sym eb ∙ sym e ∙ ea))),
   )
-  take-rank a b label m before (gets j h eb ea el _ _) = (omega (arith, rank_below p j h, surplus_splits p pos, surplus_lt p pos), λ e. omega (arith, rank_below p j h))
-  take-rank a b label m before (gets_back j h eb ea el _ _) = (omega (arith, rank_below p j h, surplus_splits p pos, surplus_lt p pos), λ e. omega (arith, rank_below p j h))
+  take_rank a b label m before (gets j h eb ea el _ _) = (omega (arith, rank_below p j h, surplus_splits p pos, surplus_lt p pos), λ e. omega (arith, rank_below p j h))
+  take_rank a b label m before (gets_back j h eb ea el _ _) = (omega (arith, rank_below p j h, surplus_splits p pos, surplus_lt p pos), λ e. omega (arith, rank_below p j h))
 
   abbrev at : ℕ → List Action → Rank E
   at r before = acts join (λ a. sent a r) before (fresh unit (inputs r))
@@ -439,14 +439,14 @@ module _ {E : Type 0} (proper : E → Bool) (unit : E) (join : E → E → E) (l
   send_met : (a b label : ℕ) (before : List Action) → Sent p a before b label → (m : Merge) × Stands (allreduce p b) (Take a label m)
   send_met a b label before (swaps n k h l ea eb el _) =
       let m : Merge = cond (bit (flip n k) k) Before After in
-      (m, moved_stands (allreduce p) b (rank_of p (flip n k)) (Take a label m) (Take (rank_of p (flip (flip n k) k)) k m) eb (ap₂ (λ (u v : ℕ). Take u v m) (ea ∙ ap (rank_of p) (sym (flip_back n k))) el) (take-swap_stands p (flip n k) k l))
-  send_met a b label before (hands_in j h ea eb el _) = (Before, moved_stands (allreduce p) b (rank_of p j) (Take a label Before) (Take (2 * j) hand_in Before) eb (ap₂ (λ (u v : ℕ). Take u v Before) ea el) (take-in_stands p j h))
-  send_met a b label before (hands_back j h ea eb el _) = (Replace, moved_stands (allreduce p) b (2 * j) (Take a label Replace) (Take (rank_of p j) hand_back Replace) eb (ap₂ (λ (u v : ℕ). Take u v Replace) ea el) (take-back_stands p j h))
+      (m, moved_stands (allreduce p) b (rank_of p (flip n k)) (Take a label m) (Take (rank_of p (flip (flip n k) k)) k m) eb (ap₂ (λ (u v : ℕ). Take u v m) (ea ∙ ap (rank_of p) (sym (flip_back n k))) el) (take_swap_stands p (flip n k) k l))
+  send_met a b label before (hands_in j h ea eb el _) = (Before, moved_stands (allreduce p) b (rank_of p j) (Take a label Before) (Take (2 * j) hand_in Before) eb (ap₂ (λ (u v : ℕ). Take u v Before) ea el) (take_in_stands p j h))
+  send_met a b label before (hands_back j h ea eb el _) = (Replace, moved_stands (allreduce p) b (2 * j) (Take a label Replace) (Take (rank_of p j) hand_back Replace) eb (ap₂ (λ (u v : ℕ). Take u v Replace) ea el) (take_back_stands p j h))
 
-  take-met : (a b label : ℕ) (m : Merge) (before : List Action) → Took p b before a label m → Stands (allreduce p a) (Send b label)
-  take-met a b label m before (swaps n k h l eb ea el _ _) = moved_stands (allreduce p) a (rank_of p (flip n k)) (Send b label) (Send (rank_of p (flip (flip n k) k)) k) ea (ap₂ Send (eb ∙ ap (rank_of p) (sym (flip_back n k))) el) (send_swap_stands p (flip n k) k l)
-  take-met a b label m before (gets j h eb ea el _ _) = moved_stands (allreduce p) a (2 * j) (Send b label) (Send (rank_of p j) hand_in) ea (ap₂ Send eb el) (send_in_stands p j h)
-  take-met a b label m before (gets_back j h eb ea el _ _) = moved_stands (allreduce p) a (rank_of p j) (Send b label) (Send (2 * j) hand_back) ea (ap₂ Send eb el) (send_back_stands p j h)
+  take_met : (a b label : ℕ) (m : Merge) (before : List Action) → Took p b before a label m → Stands (allreduce p a) (Send b label)
+  take_met a b label m before (swaps n k h l eb ea el _ _) = moved_stands (allreduce p) a (rank_of p (flip n k)) (Send b label) (Send (rank_of p (flip (flip n k) k)) k) ea (ap₂ Send (eb ∙ ap (rank_of p) (sym (flip_back n k))) el) (send_swap_stands p (flip n k) k l)
+  take_met a b label m before (gets j h eb ea el _ _) = moved_stands (allreduce p) a (2 * j) (Send b label) (Send (rank_of p j) hand_in) ea (ap₂ Send eb el) (send_in_stands p j h)
+  take_met a b label m before (gets_back j h eb ea el _ _) = moved_stands (allreduce p) a (rank_of p j) (Send b label) (Send (2 * j) hand_back) ea (ap₂ Send eb el) (send_back_stands p j h)
 
   same_step : (n n' k k' b : ℕ) → n ≡ n' → b ≡ rank_of p (flip n k) → b ≡ rank_of p (flip n' k') → k ≡ k'
   same_step n n' k k' b e f g =
@@ -466,18 +466,18 @@ module _ {E : Type 0} (proper : E → Bool) (unit : E) (join : E → E → E) (l
   send_once a b label other x y (hands_back j h ea eb _ e) (hands_in j' h' ea' eb' _ e') = absurd (rank_odd p j j' h' (sym ea ∙ ea'))
   send_once a b label other x y (hands_back j h ea eb _ e) (hands_back j' h' ea' eb' _ e') = e ∙ ap (λ (n : ℕ). before_step p n (floor_log p)) (rank_inj p j j' (sym ea ∙ ea')) ∙ sym e'
 
-  take-once : (a b label other : ℕ) (m o : Merge) (x y : List Action) → Took p b x a label m → Took p b y a other o → x ≡ y
-  take-once a b label other m o x y (swaps n k _ _ eb ea _ _ e) (swaps n' k' _ _ eb' ea' _ _ e') =
+  take_once : (a b label other : ℕ) (m o : Merge) (x y : List Action) → Took p b x a label m → Took p b y a other o → x ≡ y
+  take_once a b label other m o x y (swaps n k _ _ eb ea _ _ e) (swaps n' k' _ _ eb' ea' _ _ e') =
       let q : n ≡ n' = rank_inj p n n' (sym eb ∙ eb') in
       e ∙ ap₂ (λ (n k : ℕ). before_step p n k ++ (Send (rank_of p (flip n k)) k ∷ [])) q (same_step n n' k k' a q ea ea') ∙ sym e'
-  take-once a b label other m o x y (swaps n k _ _ eb ea _ _ e) (gets j h eb' ea' _ _ e') = absurd (rank_odd p (flip n k) j h (sym ea ∙ ea'))
-  take-once a b label other m o x y (swaps n k _ _ eb ea _ _ e) (gets_back j h eb' ea' _ _ e') = absurd (rank_odd p n j h (sym eb ∙ eb'))
-  take-once a b label other m o x y (gets j h eb ea _ _ e) (swaps n k _ _ eb' ea' _ _ e') = absurd (rank_odd p (flip n k) j h (sym ea' ∙ ea))
-  take-once a b label other m o x y (gets j h eb ea _ _ e) (gets j' h' eb' ea' _ _ e') = e ∙ sym e'
-  take-once a b label other m o x y (gets j h eb ea _ _ e) (gets_back j' h' eb' ea' _ _ e') = absurd (rank_odd p j j' h' (sym eb ∙ eb'))
-  take-once a b label other m o x y (gets_back j h eb ea _ _ e) (swaps n k _ _ eb' ea' _ _ e') = absurd (rank_odd p n j h (sym eb' ∙ eb))
-  take-once a b label other m o x y (gets_back j h eb ea _ _ e) (gets j' h' eb' ea' _ _ e') = absurd (rank_odd p j' j h (sym eb' ∙ eb))
-  take-once a b label other m o x y (gets_back j h eb ea _ _ e) (gets_back j' h' eb' ea' _ _ e') =
+  take_once a b label other m o x y (swaps n k _ _ eb ea _ _ e) (gets j h eb' ea' _ _ e') = absurd (rank_odd p (flip n k) j h (sym ea ∙ ea'))
+  take_once a b label other m o x y (swaps n k _ _ eb ea _ _ e) (gets_back j h eb' ea' _ _ e') = absurd (rank_odd p n j h (sym eb ∙ eb'))
+  take_once a b label other m o x y (gets j h eb ea _ _ e) (swaps n k _ _ eb' ea' _ _ e') = absurd (rank_odd p (flip n k) j h (sym ea' ∙ ea))
+  take_once a b label other m o x y (gets j h eb ea _ _ e) (gets j' h' eb' ea' _ _ e') = e ∙ sym e'
+  take_once a b label other m o x y (gets j h eb ea _ _ e) (gets_back j' h' eb' ea' _ _ e') = absurd (rank_odd p j j' h' (sym eb ∙ eb'))
+  take_once a b label other m o x y (gets_back j h eb ea _ _ e) (swaps n k _ _ eb' ea' _ _ e') = absurd (rank_odd p n j h (sym eb' ∙ eb))
+  take_once a b label other m o x y (gets_back j h eb ea _ _ e) (gets j' h' eb' ea' _ _ e') = absurd (rank_odd p j' j h (sym eb' ∙ eb))
+  take_once a b label other m o x y (gets_back j h eb ea _ _ e) (gets_back j' h' eb' ea' _ _ e') =
       let q : j ≡ j' = omega arith in
       e ∙ ap (λ (n : ℕ). Send (2 * n + 1) hand_in ∷ []) q ∙ sym e'
 
@@ -493,10 +493,10 @@ module _ {E : Type 0} (proper : E → Bool) (unit : E) (join : E → E → E) (l
         send_rank = λ a b label h s. send_rank a b label s.before (said a b label h s);
         send_mail = λ a b label h s. send_mail a b label s.before (said a b label h s);
         send_met = λ a b label h s. send_met a b label s.before (said a b label h s);
-        take-rank = λ a b label m h s. take-rank a b label m s.before (heard a b label m h s);
-        take-met = λ a b label m h s. take-met a b label m s.before (heard a b label m h s);
+        take_rank = λ a b label m h s. take_rank a b label m s.before (heard a b label m h s);
+        take_met = λ a b label m h s. take_met a b label m s.before (heard a b label m h s);
         send_once = λ a b label other h s t. send_once a b label other s.before t.before (said a b label h s) (said a b other h t);
-        take-once = λ a b label other m o h s t. take-once a b label other m o s.before t.before (heard a b label m h s) (heard a b other o h t);
+        take_once = λ a b label other m o h s t. take_once a b label other m o s.before t.before (heard a b label m h s) (heard a b other o h t);
       }
 
   -- rank r with all of its actions done

@@ -17,7 +17,7 @@ use Rattle.programme.specs.Outcome.{ComesOut}
 use Rattle.ranks.specs.Ranks.{sum_below, greatest_below}
 use Rattle.programme.specs.Formula.{sends}
 use Rattle.programme.proofs.Power.{levels_below, levels_le, levels_past, floor_log_pow, pow_inj}
-use Rattle.programme.proofs.Bits.{mod_set, mod_clear, mod_next, set-le, Set, Clear, when_set, when_clear}
+use Rattle.programme.proofs.Bits.{mod_set, mod_clear, mod_next, set_le, Set, Clear, when_set, when_clear}
 use Rattle.programme.proofs.Lists.{Every, every_stands, every_append, every_steps, every_when, stands_first, stands_left, stands_right, stands_when, stands_steps, moved_stands, acts_done, acts_append, sends_append, sends_steps, sends_when, sends_when_take}
 use Rattle.ranks.proofs.Sums.{sum_same, greatest_is}
 use Rattle.programme.proofs.Spans.{span_one, spans_join}
@@ -102,9 +102,9 @@ send_is : (p r k : ℕ) → r % 2 ^ k ≡ 0 → bit r k ≡ true → fold_step p
 unfolding fold_step
 send_is p r k z b = rw (eq-eqb (r % 2 ^ k) 0 z, b)
 
-take-is : (p r k : ℕ) → r % 2 ^ k ≡ 0 → bit r k ≡ false → r + 2 ^ k < p → fold_step p r k ≡ Take (r + 2 ^ k) k After ∷ []
+take_is : (p r k : ℕ) → r % 2 ^ k ≡ 0 → bit r k ≡ false → r + 2 ^ k < p → fold_step p r k ≡ Take (r + 2 ^ k) k After ∷ []
 unfolding fold_step
-take-is p r k z b l = rw (eq-eqb (r % 2 ^ k) 0 z, b, lt-ltb (r + 2 ^ k) p l)
+take_is p r k z b l = rw (eq-eqb (r % 2 ^ k) 0 z, b, lt-ltb (r + 2 ^ k) p l)
 
 deliver_stands : (p root : ℕ) → (root ≡ 0 → ⊥) → Stands (reduce p root 0) (Send root deliver)
 unfolding reduce
@@ -121,10 +121,10 @@ receive_stands p root h =
 
 -- rank 0 has no bit
 no_bit : (k : ℕ) → bit 0 k ≡ true → ⊥
-no_bit k e = omega (arith, set-le 0 k e, pow_pos k)
+no_bit k e = omega (arith, set_le 0 k e, pow_pos k)
 
 bit_positive : (r k : ℕ) → bit r k ≡ true → r ≡ 0 → ⊥
-bit_positive r k e z = omega (arith, set-le r k e, pow_pos k)
+bit_positive r k e z = omega (arith, set_le r k e, pow_pos k)
 
 -- once a remainder, always one
 mod_stays : (r k : ℕ) → r % 2 ^ suc k ≡ 0 → r % 2 ^ k ≡ 0
@@ -137,7 +137,7 @@ climb_covers p a b k e =
     ∙ ap (λ (w : ℕ). record { first = a; number = min w (p - a) }) d
 
 within : (p root a b label : ℕ) (before : List Action) → a < p → Sent p root a before b label → Within p (reduce_covers p a b)
-within p root a b label before h (climbs k l z t eb _ _) = subst (Within p) (sym (climb_covers p a b k (omega (arith, set-le a k t)))) (omega (arith, pow_pos k), omega arith)
+within p root a b label before h (climbs k l z t eb _ _) = subst (Within p) (sym (climb_covers p a b k (omega (arith, set_le a k t)))) (omega (arith, pow_pos k), omega arith)
 within p root a b label before h (delivers n ea _ _ _) = subst (λ (x : ℕ). Within p (reduce_covers p x b)) (sym ea) (omega arith, omega arith)
 
 module _ {E : Type 0} (proper : E → Bool) (unit : E) (join : E → E → E) (laws : Laws proper unit join) (p root : ℕ) (root_lt : root < p) (inputs : ℕ → E) (inputs_proper : (r : ℕ) → r < p → proper (inputs r) ≡ true) where
@@ -217,7 +217,7 @@ module _ {E : Type 0} (proper : E → Bool) (unit : E) (join : E → E → E) (l
 
   climb_mail : (r k : ℕ) → r < p → r % 2 ^ k ≡ 0 → bit r k ≡ true → sent r (r - 2 ^ k) ≡ posted (reached r k)
   climb_mail r k h z b =
-      let e : r ≡ r - 2 ^ k + 2 ^ k = omega (arith, set-le r k b) in
+      let e : r ≡ r - 2 ^ k + 2 ^ k = omega (arith, set_le r k b) in
       let c : Holds r k (reached r k) = holds r k h in
       mail_path (sent r (r - 2 ^ k)) (posted (reached r k))
       (climb_stamp r (r - 2 ^ k) k e ∙ omega (arith, c.arrival z, c.departure z))
@@ -241,12 +241,12 @@ module _ {E : Type 0} (proper : E → Bool) (unit : E) (join : E → E → E) (l
       (sym whole)
 
   send_rank : (a b label : ℕ) (before : List Action) → a < p → Sent p root a before b label → (b < p) × (a ≡ b → ⊥)
-  send_rank a b label before h (climbs k l z t eb el _) = (omega arith, (λ e. omega (arith, set-le a k t, pow_pos k)))
+  send_rank a b label before h (climbs k l z t eb el _) = (omega arith, (λ e. omega (arith, set_le a k t, pow_pos k)))
   send_rank a b label before h (delivers n ea eb el _) = (omega arith, (λ e. n (sym eb ∙ sym e ∙ ea)))
 
-  take-rank : (a b label : ℕ) (m : Merge) (before : List Action) → b < p → Took p root b before a label m → (a < p) × (a ≡ b → ⊥)
-  take-rank a b label m before h (climbs k l z t f ea el _ _) = (omega arith, (λ e. omega (arith, pow_pos k)))
-  take-rank a b label m before h (delivers n eb ea el _ _) = (omega arith, (λ e. n (sym eb ∙ sym e ∙ ea)))
+  take_rank : (a b label : ℕ) (m : Merge) (before : List Action) → b < p → Took p root b before a label m → (a < p) × (a ≡ b → ⊥)
+  take_rank a b label m before h (climbs k l z t f ea el _ _) = (omega arith, (λ e. omega (arith, pow_pos k)))
+  take_rank a b label m before h (delivers n eb ea el _ _) = (omega arith, (λ e. n (sym eb ∙ sym e ∙ ea)))
 
   abbrev at : ℕ → List Action → Rank E
   at r before = acts join (λ a. sent a r) before (fresh unit (inputs r))
@@ -262,30 +262,30 @@ module _ {E : Type 0} (proper : E → Bool) (unit : E) (join : E → E → E) (l
       let e : a ≡ b + 2 ^ k = omega (arith, s.low) in (
         After,
         moved_stands (reduce p root) b b (Take a label After) (Take (b + 2 ^ k) k After) refl (ap₂ (λ (x y : ℕ). Take x y After) e el)
-            (step_stands p root b k (Take (b + 2 ^ k) k After) l (take-is p b k (ap (λ (x : ℕ). x % 2 ^ k) f ∙ s.rest ∙ z) (ap (λ (x : ℕ). bit x k) f ∙ s.other) (omega arith))),
+            (step_stands p root b k (Take (b + 2 ^ k) k After) l (take_is p b k (ap (λ (x : ℕ). x % 2 ^ k) f ∙ s.rest ∙ z) (ap (λ (x : ℕ). bit x k) f ∙ s.other) (omega arith))),
       )
   send_met a b label before h (delivers n ea eb el _) = (Replace, moved_stands (reduce p root) b root (Take a label Replace) (Take 0 deliver Replace) eb (ap₂ (λ (x y : ℕ). Take x y Replace) ea el) (receive_stands p root n))
 
-  take-met : (a b label : ℕ) (m : Merge) (before : List Action) → b < p → Took p root b before a label m → Stands (reduce p root a) (Send b label)
-  take-met a b label m before h (climbs k l z t f ea el _ _) =
+  take_met : (a b label : ℕ) (m : Merge) (before : List Action) → b < p → Took p root b before a label m → Stands (reduce p root a) (Send b label)
+  take_met a b label m before h (climbs k l z t f ea el _ _) =
       let s : Clear b k = when_clear b k t in
       let g : a ≡ flip b k = ea ∙ sym s.flips in
       let e : b ≡ a - 2 ^ k = omega arith in
       moved_stands (reduce p root) a a (Send b label) (Send (a - 2 ^ k) k) refl (ap₂ Send e el)
       (step_stands p root a k (Send (a - 2 ^ k) k) l (send_is p a k (ap (λ (x : ℕ). x % 2 ^ k) g ∙ s.rest ∙ z) (ap (λ (x : ℕ). bit x k) g ∙ s.other)))
-  take-met a b label m before h (delivers n eb ea el _ _) = moved_stands (reduce p root) a 0 (Send b label) (Send root deliver) ea (ap₂ Send eb el) (deliver_stands p root n)
+  take_met a b label m before h (delivers n eb ea el _ _) = moved_stands (reduce p root) a 0 (Send b label) (Send root deliver) ea (ap₂ Send eb el) (deliver_stands p root n)
 
   send_once : (a b label other : ℕ) (x y : List Action) → Sent p root a x b label → Sent p root a y b other → x ≡ y
-  send_once a b label other x y (climbs k _ _ t eb _ e) (climbs k' _ _ t' eb' _ e') = e ∙ ap (steps (fold_step p a)) (pow_inj k k' (omega (arith, set-le a k t, set-le a k' t'))) ∙ sym e'
+  send_once a b label other x y (climbs k _ _ t eb _ e) (climbs k' _ _ t' eb' _ e') = e ∙ ap (steps (fold_step p a)) (pow_inj k k' (omega (arith, set_le a k t, set_le a k' t'))) ∙ sym e'
   send_once a b label other x y (climbs k _ _ t eb _ e) (delivers n ea _ _ e') = absurd (bit_positive a k t ea)
   send_once a b label other x y (delivers n ea _ _ e) (climbs k _ _ t eb _ e') = absurd (bit_positive a k t ea)
   send_once a b label other x y (delivers n _ _ _ e) (delivers n' _ _ _ e') = e ∙ sym e'
 
-  take-once : (a b label other : ℕ) (m o : Merge) (x y : List Action) → Took p root b x a label m → Took p root b y a other o → x ≡ y
-  take-once a b label other m o x y (climbs k _ _ _ _ ea _ _ e) (climbs k' _ _ _ _ ea' _ _ e') = e ∙ ap (steps (fold_step p b)) (pow_inj k k' (omega arith)) ∙ sym e'
-  take-once a b label other m o x y (climbs k _ _ _ _ ea _ _ e) (delivers n _ ea' _ _ e') = absurd (omega (arith, pow_pos k))
-  take-once a b label other m o x y (delivers n _ ea _ _ e) (climbs k _ _ _ _ ea' _ _ e') = absurd (omega (arith, pow_pos k))
-  take-once a b label other m o x y (delivers n _ _ _ _ e) (delivers n' _ _ _ _ e') = e ∙ sym e'
+  take_once : (a b label other : ℕ) (m o : Merge) (x y : List Action) → Took p root b x a label m → Took p root b y a other o → x ≡ y
+  take_once a b label other m o x y (climbs k _ _ _ _ ea _ _ e) (climbs k' _ _ _ _ ea' _ _ e') = e ∙ ap (steps (fold_step p b)) (pow_inj k k' (omega arith)) ∙ sym e'
+  take_once a b label other m o x y (climbs k _ _ _ _ ea _ _ e) (delivers n _ ea' _ _ e') = absurd (omega (arith, pow_pos k))
+  take_once a b label other m o x y (delivers n _ ea _ _ e) (climbs k _ _ _ _ ea' _ _ e') = absurd (omega (arith, pow_pos k))
+  take_once a b label other m o x y (delivers n _ _ _ _ e) (delivers n' _ _ _ _ e') = e ∙ sym e'
 
   abbrev said : (a b label : ℕ) (s : Stands (reduce p root a) (Send b label)) → Sent p root a s.before b label
   said a b label s = every_stands (Told p root a) (reduce p root a) (Send b label) (told p root a) s
@@ -299,10 +299,10 @@ module _ {E : Type 0} (proper : E → Bool) (unit : E) (join : E → E → E) (l
         send_rank = λ a b label h s. send_rank a b label s.before h (said a b label s);
         send_mail = λ a b label h s. send_mail a b label s.before h (said a b label s);
         send_met = λ a b label h s. send_met a b label s.before h (said a b label s);
-        take-rank = λ a b label m h s. take-rank a b label m s.before h (heard a b label m s);
-        take-met = λ a b label m h s. take-met a b label m s.before h (heard a b label m s);
+        take_rank = λ a b label m h s. take_rank a b label m s.before h (heard a b label m s);
+        take_met = λ a b label m h s. take_met a b label m s.before h (heard a b label m s);
         send_once = λ a b label other h s t. send_once a b label other s.before t.before (said a b label s) (said a b other t);
-        take-once = λ a b label other m o h s t. take-once a b label other m o s.before t.before (heard a b label m s) (heard a b other o t);
+        take_once = λ a b label other m o h s t. take_once a b label other m o s.before t.before (heard a b label m s) (heard a b other o t);
       }
 
   abbrev last : ℕ → Rank E

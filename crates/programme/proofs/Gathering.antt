@@ -63,8 +63,8 @@ told p root r =
 send_stands : (p root r : ℕ) → (r ≡ root → ⊥) → Stands (gather p root r) (Send root collect)
 send_stands p root r n = subst (λ (x : List Action). Stands x (Send root collect)) (sym (elsewhere p root r n)) (stands_first (Send root collect) [])
 
-take-stands : (p root a : ℕ) → (a ≡ root → ⊥) → a < p → Stands (gather p root root) (Take a collect Keep)
-take-stands p root a n h =
+take_stands : (p root a : ℕ) → (a ≡ root → ⊥) → a < p → Stands (gather p root root) (Take a collect Keep)
+take_stands p root a n h =
     subst (λ (x : List Action). Stands x (Take a collect Keep)) (sym (at_root p root))
     (stands_steps (taking root) p a (Take a collect Keep) h (stands_when (not (eqb a root)) (Take a collect Keep) (not_from_false (eqb a root) (ne_eqb a root n))))
 
@@ -95,15 +95,15 @@ module _ {E : Type 0} (proper : E → Bool) (unit : E) (join : E → E → E) (l
             mail_path (sent a b) (posted (at a [])) refl (one_is a h) ∙ ap (λ (l : List Action). posted (at a l)) (sym t.behind);
         send_met = λ a b label h s.
             let t : Sent root a s.before b label = said a b label s in
-            (Keep, moved_stands (gather p root) b root (Take a label Keep) (Take a collect Keep) t.to (ap (λ (l : ℕ). Take a l Keep) t.under) (take-stands p root a t.other h));
-        take-rank = λ a b label m h s.
+            (Keep, moved_stands (gather p root) b root (Take a label Keep) (Take a collect Keep) t.to (ap (λ (l : ℕ). Take a l Keep) t.under) (take_stands p root a t.other h));
+        take_rank = λ a b label m h s.
             let t : Took p root b s.before a label m = heard a b label m s in
             (t.fits, (λ e. t.other (e ∙ t.is_root)));
-        take-met = λ a b label m h s.
+        take_met = λ a b label m h s.
             let t : Took p root b s.before a label m = heard a b label m s in
             moved_stands (gather p root) a a (Send b label) (Send root collect) refl (ap₂ Send t.is_root t.under) (send_stands p root a t.other);
         send_once = λ a b label other h s u. (said a b label s).behind ∙ sym (said a b other u).behind;
-        take-once = λ a b label other m o h s u. (heard a b label m s).behind ∙ sym (heard a b other o u).behind;
+        take_once = λ a b label other m o h s u. (heard a b label m s).behind ∙ sym (heard a b other o u).behind;
       }
 
   -- the root after the takes from the ranks below k

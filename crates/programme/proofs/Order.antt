@@ -41,8 +41,8 @@ module _ {E : Type 0} (join : E → E → E) (mails : ℕ → Mail E) where
   departure_grows (Send to label ∷ xs) x = omega (arith, departure_grows xs (after_send x))
   departure_grows (Take from label m ∷ xs) x = departure_grows xs (after_take join m (mails from) x)
 
-  pub take-arrives : (xs : List Action) (x : Rank E) (a label : ℕ) (m : Merge) → Stands xs (Take a label m) → (mails a).stamp ≤ (acts join mails xs x).arrival
-  take-arrives xs x a label m s =
+  pub take_arrives : (xs : List Action) (x : Rank E) (a label : ℕ) (m : Merge) → Stands xs (Take a label m) → (mails a).stamp ≤ (acts join mails xs x).arrival
+  take_arrives xs x a label m s =
       let y : Rank E = acts join mails s.before x in
       let e : acts join mails xs x ≡ acts join mails s.behind (after_take join m (mails a) y) = ap (λ (l : List Action). acts join mails l x) s.split ∙ acts_append join mails s.before (Take a label m ∷ s.behind) x in
       omega (arith, ap (λ (z : Rank E). z.arrival) e, arrival_grows s.behind (after_take join m (mails a) y))
@@ -55,9 +55,9 @@ module _ {E : Type 0} (join : E → E → E) (mails : ℕ → Mail E) where
 
 module _ {E : Type 0} (join : E → E → E) (p : ℕ) (actions : ℕ → List Action) (first : ℕ → Rank E) (mails : ℕ → ℕ → Mail E) (solved : Solved join p actions first mails) where
   -- a send bears a later stamp than each take before it: no ring of ranks waits for one another
-  pub take-then_send : (c x y label other : ℕ) (m : Merge) → c < p → (s : Stands (actions c) (Send y label)) → Stands s.before (Take x other m) → (mails x c).stamp < (mails c y).stamp
-  take-then_send c x y label other m h s t =
-      omega (arith, ap (λ (z : Mail E). z.stamp) (solved.send_mail c y label h s), take-arrives join (λ a. mails a c) s.before (first c) x other m t)
+  pub take_then_send : (c x y label other : ℕ) (m : Merge) → c < p → (s : Stands (actions c) (Send y label)) → Stands s.before (Take x other m) → (mails x c).stamp < (mails c y).stamp
+  take_then_send c x y label other m h s t =
+      omega (arith, ap (λ (z : Mail E). z.stamp) (solved.send_mail c y label h s), take_arrives join (λ a. mails a c) s.before (first c) x other m t)
 
   pub send_then_send : (c x y label other : ℕ) → c < p → (s : Stands (actions c) (Send y label)) → Stands s.before (Send x other) → (mails c x).stamp < (mails c y).stamp
   send_then_send c x y label other h s t =
@@ -69,7 +69,7 @@ module _ {E : Type 0} (join : E → E → E) (p : ℕ) (actions : ℕ → List A
   pub chain_grows : (a b : ℕ) (way : List ℕ) → Chain p actions a b way → Growing (λ x y. (mails x y).stamp) a b way
   chain_grows a b [] h = tt
   chain_grows a b (c ∷ way) h = (
-    take-then_send b a c h.1.label h.1.taken_label h.1.merge h.0 h.1.sends h.1.takes,
+    take_then_send b a c h.1.label h.1.taken_label h.1.merge h.0 h.1.sends h.1.takes,
     chain_grows b c way h.2,
   )
 
@@ -82,7 +82,7 @@ module _ {E : Type 0} (join : E → E → E) (p : ℕ) (actions : ℕ → List A
     pub stamp_bound : (a b label : ℕ) → a < p → Stands (actions a) (Send b label) → (mails a b).stamp ≤ bound
     stamp_bound a b label h s =
         let met : (m : Merge) × Stands (actions b) (Take a label m) = solved.send_met a b label h s in
-        omega (arith, take-arrives join (λ c. mails c b) (actions b) (first b) a label met.0 met.1, ends b (solved.send_rank a b label h s).0)
+        omega (arith, take_arrives join (λ c. mails c b) (actions b) (first b) a label met.0 met.1, ends b (solved.send_rank a b label h s).0)
 
     pub arrival_bound : (r : ℕ) (done left : List Action) → r < p → actions r ≡ done ++ left → (state join p actions first mails r done).arrival ≤ bound
     arrival_bound r done left h e =

@@ -114,7 +114,7 @@ module _ {E : Type 0} (join : E → E → E) (p : ℕ) (actions : ℕ → List A
       go c d e f s t =
           let s' : Stands (actions b) (Take a l m) = record { before = s.before; behind = s.behind; split = s.split ∙ ap (λ (x : ℕ). s.before ++ (Take x l m ∷ s.behind)) e } in
           let t' : Stands (actions b) (Take a n o) = record { before = t.before; behind = t.behind; split = t.split ∙ ap (λ (x : ℕ). t.before ++ (Take x n o ∷ t.behind)) f } in
-          solved.take-once a b l n m o h s' t'
+          solved.take_once a b l n m o h s' t'
   takes_once a b h (Take c l m) (Send d n) ex ey s t = absurd (let z : ◌≡◌ {A = ℕ} 0 1 = cc in omega arith)
   takes_once a b h (Send c l) y ex ey s t = absurd (let z : ◌≡◌ {A = ℕ} 0 1 = cc in omega arith)
 
@@ -128,7 +128,7 @@ module _ {E : Type 0} (join : E → E → E) (p : ℕ) (actions : ℕ → List A
   taken_sent : (a b : ℕ) → b < p → (x : Action) → from? a x ≡ true → Stands (actions b) x → 0 < tally (to? b) (actions a)
   taken_sent a b h (Take c l m) e s =
       let s' : Stands (actions b) (Take a l m) = subst (λ (x : ℕ). Stands (actions b) (Take x l m)) (sym (eqb-true a c e)) s in
-      stands_counted (to? b) (actions a) (Send b l) (eq-eqb b b refl) (solved.take-met a b l m h s')
+      stands_counted (to? b) (actions a) (Send b l) (eq-eqb b b refl) (solved.take_met a b l m h s')
   taken_sent a b h (Send c l) e s = absurd (let z : ◌≡◌ {A = ℕ} 0 1 = cc in omega arith)
 
   pair_same : (a b : ℕ) → a < p → b < p → tally (to? b) (actions a) ≡ tally (from? a) (actions b)
@@ -146,7 +146,7 @@ module _ {E : Type 0} (join : E → E → E) (p : ℕ) (actions : ℕ → List A
 
   pub takes_are_sends : sum_below (λ r. takes (actions r)) p ≡ sum_below (λ r. sends (actions r)) p
   takes_are_sends =
-      sum_same (λ b. takes (actions b)) (λ b. sum_below (λ a. tally (from? a) (actions b)) p) p (λ b h. sym (takes_by p (actions b) (λ a label m s. (solved.take-rank a b label m h s).0)))
+      sum_same (λ b. takes (actions b)) (λ b. sum_below (λ a. tally (from? a) (actions b)) p) p (λ b h. sym (takes_by p (actions b) (λ a label m s. (solved.take_rank a b label m h s).0)))
       ∙ sum_same (λ b. sum_below (λ a. tally (from? a) (actions b)) p) (λ b. sum_below (λ a. tally (to? b) (actions a)) p) p (λ b h. sum_same (λ a. tally (from? a) (actions b)) (λ a. tally (to? b) (actions a)) p (λ a l. sym (pair_same a b l h)))
       ∙ sum-swap (λ b a. tally (to? b) (actions a)) p p
       ∙ sum_same (λ a. sum_below (λ b. tally (to? b) (actions a)) p) (λ a. sends (actions a)) p (λ a h. sends_by p (actions a) (λ b label s. (solved.send_rank a b label h s).0))

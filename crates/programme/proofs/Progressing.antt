@@ -6,7 +6,7 @@ use Rattle.programme.specs.declared.Merge.{Merge}
 use Rattle.programme.specs.Rank.{Rank, Mail}
 use Rattle.programme.specs.Solved.{Stands, Solved}
 use Rattle.programme.specs.Progress.{GoesOn, NeverStuck}
-use Rattle.programme.proofs.Order.{take-then_send}
+use Rattle.programme.proofs.Order.{take_then_send}
 
 not_none : (a : Action) (l : List Action) → a ∷ l ≡ [] → ⊥
 not_none a l e = let z : ◌≡◌ {A = ℕ} 0 1 = cc in omega arith
@@ -34,10 +34,10 @@ module _ {E : Type 0} (join : E → E → E) (p : ℕ) (actions : ℕ → List A
         taken = record { before = done r; behind = rest; split = split r h ∙ ap (λ (x : List Action). done r ++ x) e }
 
         there : a < p
-        there = (solved.take-rank a r label m h taken).0
+        there = (solved.take_rank a r label m h taken).0
 
         met : Stands (actions a) (Send r label)
-        met = solved.take-met a r label m h taken
+        met = solved.take_met a r label m h taken
 
         waits : (t : Stands (left a) (Send r label)) → met.before ≡ done a ++ t.before → (todo : List Action) → left a ≡ todo → ((r a label : ℕ) (m : Merge) (rest : List Action) → r < p → left r ≡ Take a label m ∷ rest → (mails a r).stamp < fuel → (g : ℕ) × (g < p) × GoesOn done left g) → (g : ℕ) × (g < p) × GoesOn done left g
         waits t b [] f less = absurd (nothing t.before (sym t.split ∙ f))
@@ -54,7 +54,7 @@ module _ {E : Type 0} (join : E → E → E) (p : ℕ) (actions : ℕ → List A
                 let y : Take c other n ∷ more ≡ x ∷ (before ++ (Send r label ∷ t.behind)) = sym f ∙ q in
                 let w : x ≡ Take c other n = cc in
                 let s : Stands met.before (Take c other n) = record { before = done a; behind = before; split = b ∙ ap (λ (u : Action). done a ++ (u ∷ before)) w } in
-                omega (arith, take-then_send join p actions first mails solved a c r label other n there met s)
+                omega (arith, take_then_send join p actions first mails solved a c r label other n there met s)
 
         go : ((r a label : ℕ) (m : Merge) (rest : List Action) → r < p → left r ≡ Take a label m ∷ rest → (mails a r).stamp < fuel → (g : ℕ) × (g < p) × GoesOn done left g) → (g : ℕ) × (g < p) × GoesOn done left g
         go less =

@@ -63,9 +63,9 @@ send_stands m p a b k l e h =
     (stands_left (when (ltb (a + 2 ^ k) p) (Send (a + 2 ^ k) k)) (when (leb (2 ^ k) a) (Take (a - 2 ^ k) k m)) (Send (a + 2 ^ k) k)
     (stands_when (ltb (a + 2 ^ k) p) (Send (a + 2 ^ k) k) (lt-ltb (a + 2 ^ k) p (omega arith)))))
 
-pub take-stands : (m : Merge) (p a b k : ℕ) → k < levels p → a + 2 ^ k ≡ b → Stands (steps (scan_step m p b) (levels p)) (Take a k m)
+pub take_stands : (m : Merge) (p a b k : ℕ) → k < levels p → a + 2 ^ k ≡ b → Stands (steps (scan_step m p b) (levels p)) (Take a k m)
 unfolding scan_step
-take-stands m p a b k l e =
+take_stands m p a b k l e =
     let f : a ≡ b - 2 ^ k = omega arith in
     rw f
     (stands_steps (scan_step m p b) (levels p) k (Take (b - 2 ^ k) k m) l
@@ -162,11 +162,11 @@ module _ {E : Type 0} (proper : E → Bool) (unit : E) (join : E → E → E) (l
             ap (sent a) t.to ∙ sends_mail a t.k h t.fits ∙ ap (λ (l : List Action). posted (acts join (λ c. sent c a) l (fresh unit (inputs a)))) (sym t.behind);
         send_met = λ a b label h s.
             let t : Sent m p a s.before b label = every_stands (Told m p a) (actions a) (Send b label) (told m p a) s in
-            (m, rw t.under (take-stands m p a b t.k t.within (sym t.to)));
-        take-rank = λ a b label with h s.
+            (m, rw t.under (take_stands m p a b t.k t.within (sym t.to)));
+        take_rank = λ a b label with h s.
             let t : Took m p b s.before a label with = every_stands (Told m p b) (actions b) (Take a label with) (told m p b) s in
             (omega (arith, t.from), λ e. omega (arith, t.from, t.fits, pow_pos t.k, e));
-        take-met = λ a b label with h s.
+        take_met = λ a b label with h s.
             let t : Took m p b s.before a label with = every_stands (Told m p b) (actions b) (Take a label with) (told m p b) s in
             rw t.under (send_stands m p a b t.k t.within (omega (arith, t.from, t.fits)) h);
         send_once = λ a b label other h s u.
@@ -174,7 +174,7 @@ module _ {E : Type 0} (proper : E → Bool) (unit : E) (join : E → E → E) (l
             let v : Sent m p a u.before b other = every_stands (Told m p a) (actions a) (Send b other) (told m p a) u in
             let e : t.k ≡ v.k = pow_inj t.k v.k (omega (arith, t.to, v.to)) in
             t.behind ∙ ap (steps (scan_step m p a)) e ∙ sym v.behind;
-        take-once = λ a b label other with others h s u.
+        take_once = λ a b label other with others h s u.
             let t : Took m p b s.before a label with = every_stands (Told m p b) (actions b) (Take a label with) (told m p b) s in
             let v : Took m p b u.before a other others = every_stands (Told m p b) (actions b) (Take a other others) (told m p b) u in
             let e : t.k ≡ v.k = pow_inj t.k v.k (omega (arith, t.from, v.from, t.fits, v.fits)) in

@@ -114,8 +114,8 @@ send_stands p root u k h l =
     (stands_steps (sending p root u) (levels p) k (Send (rank_at p root (u + 2 ^ k)) k) (levels_below p k (omega arith))
     (stands_when (ltb u (2 ^ k) && ltb (u + 2 ^ k) p) (Send (rank_at p root (u + 2 ^ k)) k) (and_from (ltb u (2 ^ k)) (ltb (u + 2 ^ k) p) (lt-ltb u (2 ^ k) h) (lt-ltb (u + 2 ^ k) p l))))
 
-take-stands : (p root u : ℕ) → 0 < u → Stands (spread p root u) (Take (rank_at p root (u - 2 ^ floor_log u)) (floor_log u) Replace)
-take-stands p root u h =
+take_stands : (p root u : ℕ) → 0 < u → Stands (spread p root u) (Take (rank_at p root (u - 2 ^ floor_log u)) (floor_log u) Replace)
+take_stands p root u h =
     stands_left (taking p root u) (steps (sending p root u) (levels p)) (Take (rank_at p root (u - 2 ^ floor_log u)) (floor_log u) Replace)
     (stands_when (ltb 0 u) (Take (rank_at p root (u - 2 ^ floor_log u)) (floor_log u) Replace) (lt-ltb 0 u h))
 
@@ -227,15 +227,15 @@ module _ {E : Type 0} (proper : E → Bool) (unit : E) (join : E → E → E) (l
       let from : a ≡ rank_at p root (w - 2 ^ floor_log w) = sym (rank_of_number p root root_lt a h) ∙ ap (rank_at p root) (let z : number a ≡ w - 2 ^ floor_log w = omega (arith, ap (λ (x : ℕ). 2 ^ x) hb) in z) in
       moved_stands (spread p root) (number b) w (Take a label Replace) (Take (rank_at p root (w - 2 ^ floor_log w)) (floor_log w) Replace) e
       (ap₂ (λ (x y : ℕ). Take x y Replace) from (t.under ∙ sym hb))
-      (take-stands p root w (omega (arith, pow_pos t.k)))
+      (take_stands p root w (omega (arith, pow_pos t.k)))
 
   -- the number that is taken from
   source : (u : ℕ) → ℕ
   source u = u - 2 ^ floor_log u
 
-  take-met : (a b label : ℕ) (m : Merge) (before : List Action) → b < p → Took p root (number b) before a label m → Stands (spread p root (number a)) (Send b label)
+  take_met : (a b label : ℕ) (m : Merge) (before : List Action) → b < p → Took p root (number b) before a label m → Stands (spread p root (number a)) (Send b label)
   unfolding source
-  take-met a b label m before h t =
+  take_met a b label m before h t =
       let u : ℕ = number b in
       let le : 2 ^ floor_log u ≤ u = floor_log_le u t.some in
       let lt : u < 2 ^ suc (floor_log u) = lt_floor_log u t.some in
@@ -258,19 +258,19 @@ module _ {E : Type 0} (proper : E → Bool) (unit : E) (join : E → E → E) (l
             let t : Sent p root (number a) s.before b label = said a b label s in
             ap (sent a) t.to ∙ send_mail a (number a) t.k h refl t.above t.fits ∙ ap (λ (l : List Action). posted (acts join (λ c. sent c a) l (fresh unit (inputs a)))) (sym t.behind);
         send_met = λ a b label h s. (Replace, send_met a b label s.before h (said a b label s));
-        take-rank = λ a b label m h s.
+        take_rank = λ a b label m h s.
             let t : Took p root (number b) s.before a label m = heard a b label m s in
             let le : 2 ^ floor_log (number b) ≤ number b = floor_log_le (number b) t.some in (
               rw t.from (rank_at_lt p root root_lt (source (number b))),
               (λ e. omega (arith, pow_pos (floor_log (number b)), sym (ap number e) ∙ ap number t.from ∙ number_of_rank p root root_lt (source (number b)) (omega (arith, from_root_lt p root root_lt b)))),
             );
-        take-met = λ a b label m h s. take-met a b label m s.before h (heard a b label m s);
+        take_met = λ a b label m h s. take_met a b label m s.before h (heard a b label m s);
         send_once = λ a b label other h s u.
             let t : Sent p root (number a) s.before b label = said a b label s in
             let v : Sent p root (number a) u.before b other = said a b other u in
             let q : number a + 2 ^ t.k ≡ number a + 2 ^ v.k = rank_at_inj p root root_lt (number a + 2 ^ t.k) (number a + 2 ^ v.k) t.fits v.fits (sym t.to ∙ v.to) in
             t.behind ∙ ap (λ (k : ℕ). taking p root (number a) ++ steps (sending p root (number a)) k) (pow_inj t.k v.k (omega arith)) ∙ sym v.behind;
-        take-once = λ a b label other m n h s u. (heard a b label m s).behind ∙ sym (heard a b other n u).behind;
+        take_once = λ a b label other m n h s u. (heard a b label m s).behind ∙ sym (heard a b other n u).behind;
       }
 
   abbrev last : ℕ → Rank E

@@ -25,8 +25,8 @@ module _ {E : Type 0} (join : E → E → E) (p : ℕ) (programme : ℕ → List
     pub send_mail : (a b label : ℕ) → a < p → (s : Stands (programme a) (Send b label)) → mail a b ≡ posted (state a s.before)
     pub send_met : (a b label : ℕ) → a < p → Stands (programme a) (Send b label) → (m : Merge) × Stands (programme b) (Take a label m)
     -- a take is from another rank, which sends under the same label
-    pub take-rank : (a b label : ℕ) (m : Merge) → b < p → Stands (programme b) (Take a label m) → (a < p) × (a ≢ b)
-    pub take-met : (a b label : ℕ) (m : Merge) → b < p → Stands (programme b) (Take a label m) → Stands (programme a) (Send b label)
+    pub take_rank : (a b label : ℕ) (m : Merge) → b < p → Stands (programme b) (Take a label m) → (a < p) × (a ≢ b)
+    pub take_met : (a b label : ℕ) (m : Merge) → b < p → Stands (programme b) (Take a label m) → Stands (programme a) (Send b label)
     -- no pair of ranks has two messages: two sends of a to b, or takes of b from a, are one
     pub send_once : (a b label other : ℕ) → a < p → (s : Stands (programme a) (Send b label)) (t : Stands (programme a) (Send b other)) → s.before ≡ t.before
-    pub take-once : (a b label other : ℕ) (m n : Merge) → b < p → (s : Stands (programme b) (Take a label m)) (t : Stands (programme b) (Take a other n)) → s.before ≡ t.before
+    pub take_once : (a b label other : ℕ) (m n : Merge) → b < p → (s : Stands (programme b) (Take a label m)) (t : Stands (programme b) (Take a other n)) → s.before ≡ t.before

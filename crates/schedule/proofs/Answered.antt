@@ -27,7 +27,7 @@ names_other kind p root r i h few l = go (slice_get (programme kind p root r) i)
         (there.0, λ q. there.1 (sym q), labels_fit p few kind root r h (Send to label) s)
     go (Some (Take from label m)) e =
         let s = (next_at (programme kind p root r) i (Take from label m) e).stands in
-        let there = (solved_for_one kind p root h).take-rank from r label m l s in
+        let there = (solved_for_one kind p root h).take_rank from r label m l s in
         (there.0, there.1, labels_fit p few kind root r h (Take from label m) s)
 
 pub other : (collective : Collective) (p r i : ℕ) (o : Option Action) → Allowed collective p → r < p → o ≡ slice_get (actions_of collective p r) i → NamesOther p r o

@@ -3,7 +3,7 @@ use Rattle.std.proofs.Common.{◌≡◌, ℕ, zero, suc, ◌+◌, ◌/◌, ◌%�
 use lib.Count.{count_trailing_zeros, under}
 use Rattle.std.proofs.lemmas.Nat.{mod-pow-add, shr-shr}
 use Rattle.std.proofs.lemmas.Bool.{eq-eqb}
-use Rattle.programme.proofs.Bits.{set-le}
+use Rattle.programme.proofs.Bits.{set_le}
 
 pub record Lowest (n t : ℕ) : Type 0 where
   pub below : n % 2 ^ t ≡ 0
@@ -31,4 +31,4 @@ lowest zero n h l = absurd (omega arith)
 lowest (suc k) n h l = by_digit n (count_trailing_zeros k (n / 2)) (n % 2) refl (λ e. lowest k (n / 2) (omega arith) (omega arith))
 
 pub lowest_le : (n t : ℕ) → Lowest n t → 2 ^ t ≤ n
-lowest_le n t l = omega (arith, set-le n t (eq-eqb (n / 2 ^ t % 2) 1 l.here))
+lowest_le n t l = omega (arith, set_le n t (eq-eqb (n / 2 ^ t % 2) 1 l.here))

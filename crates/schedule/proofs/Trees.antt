@@ -13,7 +13,7 @@ use Rattle.programme.specs.Label.{deliver}
 use Rattle.programme.specs.Levels.{levels}
 use Rattle.programme.specs.Programme.{steps, when, bit, fold_step, reduce}
 use Rattle.programme.specs.Formula.{takes}
-use Rattle.programme.proofs.Bits.{mod_set, set-le}
+use Rattle.programme.proofs.Bits.{mod_set, set_le}
 use Rattle.programme.proofs.Lists.{steps_next}
 use Rattle.programme.proofs.Power.{levels_mono, levels_below, lt_pow}
 use Rattle.schedule.specs.Part.{tree, delivered, one_of}
@@ -90,7 +90,7 @@ module _ (p r : ℕ) (h : r < p) where
 
   other_shape : (k : ℕ) → r % 2 ^ k ≡ 0 → bit r k ≡ true → tree p r ≡ listed take 0 (min S k) ++ (Send (r - 2 ^ k) k ∷ [])
   other_shape k z b =
-      steps_quiet (fold_step p r) (suc k) (levels p) (levels_below p k (omega (arith, set-le r k b))) (λ j l m. left_here j (rest_above r j k l z b))
+      steps_quiet (fold_step p r) (suc k) (levels p) (levels_below p k (omega (arith, set_le r k b))) (λ j l m. left_here j (rest_above r j k l z b))
       ∙ steps_next (fold_step p r) k
       ∙ ap₂ (λ (x y : List Action). x ++ y)
       (low_steps k (λ j l. (mod_smaller r j k (omega arith) z, clear_below r j k l z)))

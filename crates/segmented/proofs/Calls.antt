@@ -4,7 +4,7 @@ use Rattle.std.specs.List.{flat_map}
 use Rattle.std.proofs.lemmas.List.{get_or-take, take-take, drop-take}
 use Rattle.std.proofs.lemmas.Bool.{true≢false, false≢true}
 use Rattle.ranks.specs.Ranks.{pair_ok}
-use Rattle.transport.specs.Network.{Network, Message, message, nobody, between, waiting, put, with_lists, sent, carried, some_moved, value, refused, done, none, without, oldest, between_reply, send_reply, after_send, carry_reply, after_carry, take-reply, after_take, taken_words, word_count, written, Short}
+use Rattle.transport.specs.Network.{Network, Message, message, nobody, between, waiting, put, with_lists, sent, carried, some_moved, value, refused, done, none, without, oldest, between_reply, send_reply, after_send, carry_reply, after_carry, take_reply, after_take, taken_words, word_count, written, Short}
 use Rattle.transport.specs.Many.{sent_all, carried_all}
 use Rattle.transport.proofs.Replies.{between_good, send_long, send_full, send_crowded, send_done, after_done, take_found, after_take_found, taken_found, take_none, taken_none}
 use Rattle.transport.proofs.Pairs.{pair_positive}
@@ -137,13 +137,13 @@ module _ (lim p : ℕ) (n : Network) (w : Whole lim p n) (a b : ℕ) (pair : pai
     short_arrived : Short 7 (decode (pieces lim) (n.arrived a b))
     short_arrived = (w.arrived h a b).short
 
-    pub layer_absent : found ≡ None → none ≡ take-reply net a b t (length buffer)
+    pub layer_absent : found ≡ None → none ≡ take_reply net a b t (length buffer)
     layer_absent o = sym (take_none net a b t buffer pair_here limit_fits (oldest_is ∙ o))
 
     pub layer_unwritten : found ≡ None → buffer ≡ taken_words net a b t buffer
     layer_unwritten o = sym (taken_none net a b t buffer pair_here limit_fits (oldest_is ∙ o))
 
-    pub layer_count : (m : Message) → found ≡ Some m → value (length m.words) ≡ take-reply net a b t (length buffer)
+    pub layer_count : (m : Message) → found ≡ Some m → value (length m.words) ≡ take_reply net a b t (length buffer)
     layer_count m o = sym (take_found net a b t buffer pair_here limit_fits ∙ ap word_count (oldest_is ∙ o))
 
     pub layer_words : (m : Message) → found ≡ Some m → m.words ++ drop (length m.words) buffer ≡ taken_words net a b t buffer

@@ -5,7 +5,7 @@ use Rattle.std.proofs.lemmas.List.{drop-drop, append_assoc, drop_all, length-tak
 use Rattle.std.proofs.ByRecursion.{All-weaker}
 use Rattle.std.proofs.lemmas.Bool.{cases_Bool, eq-eqb, eqb-true, true≢false}
 use Rattle.ranks.specs.Ranks.{pair_ok}
-use Rattle.transport.specs.Network.{Network, Message, message, oldest, without, none, value, refused, word_count, written, take-reply, after_take, taken_words, with_lists, put}
+use Rattle.transport.specs.Network.{Network, Message, message, oldest, without, none, value, refused, word_count, written, take_reply, after_take, taken_words, with_lists, put}
 use Rattle.transport.specs.Many.{without_n, taken_all}
 use Rattle.transport.proofs.Many.{taken_one}
 use Rattle.transport.proofs.Tables.{put_here}
@@ -159,7 +159,7 @@ count_refused (Some m) f e = let z : ◌≡◌ {A = ℕ} 0 1 = cc in absurd (ome
 
 -- the answer to take k + 1
 module _ (n : Network) (a b t k : ℕ) (pair : pair_ok n.ranks a b ≡ true) (buffer : List ℕ) (wide : n.limit ≤ length buffer) where
-  pub reply_at : take-reply (taken_all n a b t k) a b t (length buffer) ≡ word_count (oldest t (without_n t k (n.arrived a b)))
+  pub reply_at : take_reply (taken_all n a b t k) a b t (length buffer) ≡ word_count (oldest t (without_n t k (n.arrived a b)))
   reply_at = take_found (taken_all n a b t k) a b t buffer pair wide ∙ ap (λ l. word_count (oldest t l)) (put_here n.arrived a b (without_n t k (n.arrived a b)))
 
   pub words_at : taken_words (taken_all n a b t k) a b t buffer ≡ written (oldest t (without_n t k (n.arrived a b))) buffer
@@ -241,16 +241,16 @@ module _ (n now : Network) (a b t k lim : ℕ) (pair : pair_ok n.ranks a b ≡ t
     part_wide : n.limit ≤ length part
     part_wide = simp (length-take, length-drop) (omega arith)
 
-    pub turn_reply : take-reply now a b t (length part) ≡ word_count (oldest t (without_n t k (n.arrived a b)))
-    turn_reply = ap (λ m. take-reply m a b t (length part)) now_is ∙ reply_at n a b t k pair part part_wide
+    pub turn_reply : take_reply now a b t (length part) ≡ word_count (oldest t (without_n t k (n.arrived a b)))
+    turn_reply = ap (λ m. take_reply m a b t (length part)) now_is ∙ reply_at n a b t k pair part part_wide
 
     pub turn_after : after_take now a b t (length part) ≡ taken_all n a b t (k + 1)
     turn_after = ap (λ m. after_take m a b t (length part)) now_is ∙ taken_one n a b t k part pair part_wide
 
-    pub turn_none : none ≡ take-reply now a b t (length part) → found ≡ None
+    pub turn_none : none ≡ take_reply now a b t (length part) → found ≡ None
     turn_none e = none_at lim t some (n.arrived a b) coded k in_count (count_none (oldest t (without_n t k (n.arrived a b))) (e ∙ turn_reply))
 
-    pub turn_some : (j : ℕ) → value j ≡ take-reply now a b t (length part) → is_some found ≡ true
+    pub turn_some : (j : ℕ) → value j ≡ take_reply now a b t (length part) → is_some found ≡ true
     turn_some j e = some_at lim t some (n.arrived a b) coded k j (e ∙ turn_reply)
 
     pub turn_gone : found ≡ None → taken_all n a b t (k + 1) ≡ with_lists n n.under (put n.arrived a b (flat_map (segments lim) (without t (decode (pieces lim) (n.arrived a b)))))

@@ -3,7 +3,7 @@ use Rattle.std.proofs.Common.{◌≡◌, ℕ, ◌<◌, ◌≤◌, Bool, true, fa
 use Rattle.std.proofs.lemmas.Bool.{lt-ltb, le-ltb, le-leb, lt-leb}
 use Rattle.ranks.specs.Ranks.{pair_ok}
 use Rattle.transport.proofs.Tables.{put_same}
-use Rattle.transport.specs.Network.{Network, Message, refused, done, none, value, between, waiting, put, between_reply, send_reply, sent, after_send, carry_reply, after_carry, take-reply, after_take, taken_words, oldest, without, word_count, written, with_lists}
+use Rattle.transport.specs.Network.{Network, Message, refused, done, none, value, between, waiting, put, between_reply, send_reply, sent, after_send, carry_reply, after_carry, take_reply, after_take, taken_words, oldest, without, word_count, written, with_lists}
 
 module _ (n : Network) (a b : ℕ) where
   pub send_bad : (ws : List ℕ) → pair_ok n.ranks a b ≡ false → send_reply n a b ws ≡ refused 10
@@ -77,9 +77,9 @@ module _ (n : Network) (a b : ℕ) where
   after_carry_some m ms e u = rw (e, u)
 
   module _ (t : ℕ) (buffer : List ℕ) where
-    pub take-bad : pair_ok n.ranks a b ≡ false → take-reply n a b t (length buffer) ≡ refused 10
-    unfolding take-reply
-    take-bad e = rw e
+    pub take_bad : pair_ok n.ranks a b ≡ false → take_reply n a b t (length buffer) ≡ refused 10
+    unfolding take_reply
+    take_bad e = rw e
 
     pub after_take_bad : pair_ok n.ranks a b ≡ false → after_take n a b t (length buffer) ≡ n
     unfolding after_take
@@ -89,8 +89,8 @@ module _ (n : Network) (a b : ℕ) where
     unfolding taken_words
     taken_bad e = rw e
 
-    pub take_short : pair_ok n.ranks a b ≡ true → length buffer < n.limit → take-reply n a b t (length buffer) ≡ refused 14
-    unfolding take-reply
+    pub take_short : pair_ok n.ranks a b ≡ true → length buffer < n.limit → take_reply n a b t (length buffer) ≡ refused 14
+    unfolding take_reply
     take_short e h = rw (e, lt-ltb (length buffer) n.limit h)
 
     pub after_take_short : pair_ok n.ranks a b ≡ true → length buffer < n.limit → after_take n a b t (length buffer) ≡ n
@@ -102,8 +102,8 @@ module _ (n : Network) (a b : ℕ) where
     taken_short e h = rw (e, lt-leb n.limit (length buffer) h)
 
     module _ (e : pair_ok n.ranks a b ≡ true) (h : n.limit ≤ length buffer) where
-      pub take_found : take-reply n a b t (length buffer) ≡ word_count (oldest t (n.arrived a b))
-      unfolding take-reply
+      pub take_found : take_reply n a b t (length buffer) ≡ word_count (oldest t (n.arrived a b))
+      unfolding take_reply
       take_found = rw (e, le-ltb (length buffer) n.limit h)
 
       pub after_take_found : after_take n a b t (length buffer) ≡ with_lists n n.under (put n.arrived a b (without t (n.arrived a b)))
@@ -114,7 +114,7 @@ module _ (n : Network) (a b : ℕ) where
       unfolding taken_words
       taken_found = rw (e, le-leb n.limit (length buffer) h)
 
-      pub take_none : oldest t (n.arrived a b) ≡ None → take-reply n a b t (length buffer) ≡ none
+      pub take_none : oldest t (n.arrived a b) ≡ None → take_reply n a b t (length buffer) ≡ none
       take_none o = take_found ∙ ap word_count o
 
       pub after_take_none : oldest t (n.arrived a b) ≡ None → after_take n a b t (length buffer) ≡ n

@@ -164,8 +164,8 @@ written None buffer = buffer
 written (Some m) buffer = m.words ++ drop (length m.words) buffer
 
 -- a take with a buffer of that size: the answer
-unfoldable pub take-reply : Network → (a b tag size : ℕ) → Reply
-take-reply n a b t size =
+unfoldable pub take_reply : Network → (a b tag size : ℕ) → Reply
+take_reply n a b t size =
     refuse_if (not (pair_ok n.ranks a b)) BadPair
     (refuse_if (nat_lt size n.limit) ShortBuffer
     (word_count (oldest t (n.arrived a b))))

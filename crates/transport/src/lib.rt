@@ -6,7 +6,7 @@ ghost use Rattle.transport.specs.Network.{Network, Shaped, message, fault_number
 ghost use Rattle.transport.specs.Network.{sending, carrying, taking, counting};
 ghost use Rattle.transport.specs.Network.{waiting as waiting_in_all, between_reply};
 ghost use Rattle.transport.specs.Network.{send_reply, after_send, carry_reply, after_carry};
-ghost use Rattle.transport.specs.Network.{take-reply, after_take, taken_words};
+ghost use Rattle.transport.specs.Network.{take_reply, after_take, taken_words};
 
 // Why a transport refuses a call.
 #[derive(Clone, Copy, PartialEq, Eq, Debug)]
@@ -109,7 +109,7 @@ pub trait Transport {
         buffer: &mut [u32],
     ) -> Result<Option<usize>, Fault>
         requires { sound self.old }
-        ensures answer { taking result ≡ take-reply (meaning self.old) from to tag (length buffer.old) }
+        ensures answer { taking result ≡ take_reply (meaning self.old) from to tag (length buffer.old) }
         ensures words { buffer.new ≡ taken_words (meaning self.old) from to tag buffer.old }
         ensures after { meaning self.new ≡ after_take (meaning self.old) from to tag (length buffer.old) }
         ensures kept { sound self.new };

@@ -2,7 +2,7 @@
 use Rattle.std.proofs.Common.{◌≡◌, ℕ, ◌≤◌, true, false, ◌⊎◌, List, [], ◌∷◌, ◌++◌, length, drop, Some, sym, refl, ap, ◌∙◌, ap₂, inl, inr, arith}
 use Rattle.std.proofs.lemmas.Bool.{cases_Bool, eq-eqb}
 use Rattle.ranks.specs.Ranks.{pair_ok}
-use Rattle.transport.specs.Network.{Network, Message, message, Shaped, waiting, put, with_lists, sent, send_reply, after_send, after_carry, take-reply, after_take, taken_words, word_count, written, oldest, without, refused, done, value}
+use Rattle.transport.specs.Network.{Network, Message, message, Shaped, waiting, put, with_lists, sent, send_reply, after_send, after_carry, take_reply, after_take, taken_words, word_count, written, oldest, without, refused, done, value}
 use Rattle.transport.proofs.Tables.{put_here, put_put, put_same}
 use Rattle.transport.proofs.Replies.{send_bad, after_done, after_carry_some, take_found, after_take_found, taken_found}
 use Rattle.transport.proofs.Many.{nothing_waits}
@@ -56,8 +56,8 @@ module _ (most : ℕ) (n : Network) (shape : Shaped most n) (a b t : ℕ) (ws bu
   fits : n.limit ≤ length buffer
   fits = omega (arith, shape.limited)
 
-  pub back_answer : take-reply (after_carry (after_send n a b m) a b) a b t (length buffer) ≡ value (length ws)
-  back_answer = ap (λ x. take-reply x a b t (length buffer)) arrives ∙ take_found there a b t buffer pair fits ∙ ap word_count found
+  pub back_answer : take_reply (after_carry (after_send n a b m) a b) a b t (length buffer) ≡ value (length ws)
+  back_answer = ap (λ x. take_reply x a b t (length buffer)) arrives ∙ take_found there a b t buffer pair fits ∙ ap word_count found
 
   pub back_words : taken_words (after_carry (after_send n a b m) a b) a b t buffer ≡ ws ++ drop (length ws) buffer
   back_words = ap (λ x. taken_words x a b t buffer) arrives ∙ taken_found there a b t buffer pair fits ∙ ap (λ o. written o buffer) found

@@ -1,5 +1,5 @@
 use Rattle.std.proofs.Common.{length, ap, ◌∙◌}
-use Rattle.transport.specs.Network.{take-reply, taken_words, after_take, after_carry}
+use Rattle.transport.specs.Network.{take_reply, taken_words, after_take, after_carry}
 use Rattle.transport_tests.proofs.Round.{back_answer, back_words, back_after}
 use Rattle.transport_tests.proofs.there_and_back.Goals as goal
 
@@ -16,7 +16,7 @@ returns g c =
     let before = c.carry.ensures.after ∙ ap (λ x. after_carry x c.args.from c.args.to) c.send.ensures.after in
     let k = c.take.ensures in
     record {
-      answer = λ idle ok wide. k.answer ∙ ap (λ x. take-reply x c.args.from c.args.to c.args.tag (length c.args.buffer.now)) before ∙ back_answer t.most n shape a b tag ws buffer idle ok wide;
+      answer = λ idle ok wide. k.answer ∙ ap (λ x. take_reply x c.args.from c.args.to c.args.tag (length c.args.buffer.now)) before ∙ back_answer t.most n shape a b tag ws buffer idle ok wide;
       words = λ idle ok wide. k.words ∙ ap (λ x. taken_words x c.args.from c.args.to c.args.tag c.args.buffer.now) before ∙ back_words t.most n shape a b tag ws buffer idle ok wide;
       after = λ idle ok wide. k.after ∙ ap (λ x. after_take x c.args.from c.args.to c.args.tag (length c.args.buffer.now)) before ∙ back_after t.most n shape a b tag ws buffer idle ok wide;
       kept = k.kept;

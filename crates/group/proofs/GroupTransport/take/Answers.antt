@@ -1,6 +1,6 @@
 use Rattle.std.proofs.Common.{ℕ, false, length, get_or, sym, refl, ap, ◌∙◌, subst}
-use Rattle.transport.specs.Network.{take-reply, after_take, taken_words}
-use Rattle.transport.proofs.Replies.{take-bad, after_take_bad, taken_bad}
+use Rattle.transport.specs.Network.{take_reply, after_take, taken_words}
+use Rattle.transport.proofs.Replies.{take_bad, after_take_bad, taken_bad}
 use Rattle.transport.proofs.Pairs.{pair_positive}
 use Rattle.transport.proofs.Shapes.{layer_pair}
 use Rattle.group.specs.Members.{open_group, grouped, Grouping}
@@ -14,7 +14,7 @@ returns-then-not-is_pair g c =
     let n = t.meaning l.below in
     let e = layer_pair t.most l.count (open_group l.count l.table n) refl c.args.from c.args.to false (sym c.if-not-is_pair.ensures) in
     record {
-      answer = sym (take-bad (grouped t.most l.count l.table n) c.args.from c.args.to c.args.tag c.args.buffer.now e);
+      answer = sym (take_bad (grouped t.most l.count l.table n) c.args.from c.args.to c.args.tag c.args.buffer.now e);
       words = sym (taken_bad (grouped t.most l.count l.table n) c.args.from c.args.to c.args.tag c.args.buffer.now e);
       after = sym (after_take_bad (grouped t.most l.count l.table n) c.args.from c.args.to c.args.tag c.args.buffer.now e);
       kept = c.requires;
@@ -34,7 +34,7 @@ returns g c =
     let pairs = c.pair_below-from.ensures in
     let after = k.after ∙ ap (λ (q : ℕ × ℕ). after_take n q.0 q.1 c.args.tag (length c.args.buffer.now)) pairs in
     record {
-      answer = k.answer ∙ ap (λ (q : ℕ × ℕ). take-reply n q.0 q.1 c.args.tag (length c.args.buffer.now)) pairs ∙ take_same t.most l.count l.table n shape c.requires.1 h c.args.from c.args.to e c.args.tag size ∙ ap (λ x. take-reply x c.args.from c.args.to c.args.tag size) (sym o);
+      answer = k.answer ∙ ap (λ (q : ℕ × ℕ). take_reply n q.0 q.1 c.args.tag (length c.args.buffer.now)) pairs ∙ take_same t.most l.count l.table n shape c.requires.1 h c.args.from c.args.to e c.args.tag size ∙ ap (λ x. take_reply x c.args.from c.args.to c.args.tag size) (sym o);
       words = k.words ∙ ap (λ (q : ℕ × ℕ). taken_words n q.0 q.1 c.args.tag c.args.buffer.now) pairs ∙ taken_same t.most l.count l.table n shape c.requires.1 h c.args.from c.args.to e c.args.tag c.args.buffer.now ∙ ap (λ x. taken_words x c.args.from c.args.to c.args.tag c.args.buffer.now) (sym o);
       after =
           ap (grouped t.most l.count l.table) after

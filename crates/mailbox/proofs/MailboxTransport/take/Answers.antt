@@ -1,6 +1,6 @@
 use Rattle.std.proofs.Common.{◌≡◌, ℕ, ◌+◌, ◌-◌, ◌<◌, ◌≤◌, true, Some, sym, ap, ◌∙◌, subst, arith}
 use Rattle.transport.specs.Network.{value, word_count, written, oldest}
-use Rattle.transport.proofs.Replies.{take-bad, after_take_bad, taken_bad, take_short, after_take_short, taken_short, take_none, after_take_none, taken_none, take_found, after_take_found, taken_found}
+use Rattle.transport.proofs.Replies.{take_bad, after_take_bad, taken_bad, take_short, after_take_short, taken_short, take_none, after_take_none, taken_none, take_found, after_take_found, taken_found}
 use Rattle.mailbox.specs.declared.Slot.{Slot}
 use Rattle.mailbox.specs.Slots.{message_of, slot_at, base, is_free, is_tagged, is_arrived}
 use Rattle.mailbox.specs.Matrix.{mailbox_meaning, SoundBox}
@@ -14,7 +14,7 @@ returns-then-not-is_pair c =
     let m = c.args.self.now in
     let n = mailbox_meaning m in
     let e = sym c.if-not-is_pair.ensures in
-    record { answer = sym (take-bad n c.args.from c.args.to c.args.tag c.args.buffer.now e); words = sym (taken_bad n c.args.from c.args.to c.args.tag c.args.buffer.now e); after = sym (after_take_bad n c.args.from c.args.to c.args.tag c.args.buffer.now e); kept = c.requires }
+    record { answer = sym (take_bad n c.args.from c.args.to c.args.tag c.args.buffer.now e); words = sym (taken_bad n c.args.from c.args.to c.args.tag c.args.buffer.now e); after = sym (after_take_bad n c.args.from c.args.to c.args.tag c.args.buffer.now e); kept = c.requires }
 
 pub returns-then-buffer-lt-MESSAGE_LIMIT : goal.returns-then-buffer-lt-MESSAGE_LIMIT
 returns-then-buffer-lt-MESSAGE_LIMIT c =

@@ -1,6 +1,6 @@
 use Rattle.std.proofs.Common.{◌<◌, ◌≤◌, true, false, ◌++◌, length, drop, sym, refl, ap, ◌∙◌, ap₂, arith}
 use Rattle.transport.specs.Network.{oldest, value}
-use Rattle.transport.proofs.Replies.{take-bad, after_take_bad, taken_bad, take_short, after_take_short, taken_short}
+use Rattle.transport.proofs.Replies.{take_bad, after_take_bad, taken_bad, take_short, after_take_short, taken_short}
 use Rattle.segmented.specs.Segments.{pieces, decode, open_network, segmented}
 use Rattle.transport.proofs.Shapes.{layer_pair}
 use Rattle.segmented.proofs.Calls.{limit_is, ok_same, found_none, found_some, held_length, held_words, layer_absent, layer_unwritten, layer_count, layer_words, layer_short, layer_taken, layer_taken_whole}
@@ -13,7 +13,7 @@ returns-then-not-is_pair g c =
     let n = t.meaning l.below in
     let e = layer_pair 7 l.ranks (open_network (pieces t.most) l.ranks n) refl c.args.from c.args.to false (sym c.if-not-is_pair.ensures) in
     record {
-      answer = sym (take-bad (segmented t.most l.ranks n) c.args.from c.args.to c.args.tag c.args.buffer.now e);
+      answer = sym (take_bad (segmented t.most l.ranks n) c.args.from c.args.to c.args.tag c.args.buffer.now e);
       words = sym (taken_bad (segmented t.most l.ranks n) c.args.from c.args.to c.args.tag c.args.buffer.now e);
       after = sym (after_take_bad (segmented t.most l.ranks n) c.args.from c.args.to c.args.tag c.args.buffer.now e);
       kept = c.requires;

@@ -1,5 +1,5 @@
 use Rattle.std.proofs.Common.{sym, ap, ◌∙◌}
-use Rattle.transport.proofs.Replies.{take-bad, after_take_bad, taken_bad, take_short, after_take_short, taken_short, take_none, after_take_none, taken_none, take_found, after_take_found, taken_found}
+use Rattle.transport.proofs.Replies.{take_bad, after_take_bad, taken_bad, take_short, after_take_short, taken_short, take_none, after_take_none, taken_none, take_found, after_take_found, taken_found}
 use Rattle.transport.specs.Network.{value, word_count, written}
 use Rattle.shared_log.proofs.Calls.{blank, log_good_in, log_oldest_in, log_after_take, log_take_sound}
 use Rattle.shared_log.specs.Records.{log_meaning, message_of, is_arrived}
@@ -11,7 +11,7 @@ returns-then-not-is_pair c =
     let n = log_meaning c.args.self.now in
     let e = sym c.if-not-is_pair.ensures in
     record {
-      answer = sym (take-bad n c.args.from c.args.to c.args.tag c.args.buffer.now e);
+      answer = sym (take_bad n c.args.from c.args.to c.args.tag c.args.buffer.now e);
       words = sym (taken_bad n c.args.from c.args.to c.args.tag c.args.buffer.now e);
       after = sym (after_take_bad n c.args.from c.args.to c.args.tag c.args.buffer.now e);
       kept = c.requires;

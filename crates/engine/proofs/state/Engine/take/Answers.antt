@@ -6,7 +6,7 @@ use Rattle.jobs.specs.Tables.{pending_jobs, with_received}
 use Rattle.jobs.specs.Updates.{update}
 use Rattle.engine.specs.Abs.{AmongRanks, state_taken, with_jobs}
 use Rattle.engine.proofs.Onward.{onward}
-use Rattle.engine.proofs.Situation.{within, rank_low, clocks, number_low, narrow, done_few, take-label, pair, legible, waits_step, room_kept, took_step, ranks_update, received_ranks}
+use Rattle.engine.proofs.Situation.{within, rank_low, clocks, number_low, narrow, done_few, take_label, pair, legible, waits_step, room_kept, took_step, ranks_update, received_ranks}
 use Rattle.machine.specs.Network.{with_taken}
 use Rattle.transport.specs.Network.{oldest}
 use Rattle.engine_parts.specs.Mail.{Legible, mail_in}
@@ -59,7 +59,7 @@ job_tag-tag-requires g c =
     let j_is = c.job.ensures j in
     let st = c.state-state.result in
     let st_is = c.state-state.ensures st in
-    (number_low op net ok e t k r a due o h j j_is st st_is, take-label op net ok e t k r c.args.from c.args.label c.args.merge due o h j j_is st st_is)
+    (number_low op net ok e t k r a due o h j j_is st st_is, take_label op net ok e t k r c.args.from c.args.label c.args.merge due o h j j_is st st_is)
 
 pub take_value-requires : goal.take_value-requires
 take_value-requires g c =
