@@ -1,7 +1,7 @@
 /* A scan of three maps modulo 10, which do not commute: the maps up to each rank, the first one done first.
  *
- *     rt staticlib bridge
- *     cc -Ibindings/c bindings/c/example.c target/staticlib/libbridge.a -o example && ./example */
+ *     (cd crates/bridge && rt lib)
+ *     cc -Ibindings/c bindings/c/example.c crates/bridge/out/libbridge.a -o example && ./example */
 #include "gelvatos.h"
 
 #include <stdio.h>

@@ -7,7 +7,7 @@
  *
  * The engine lies on the stack: with 128 KiB of it every operation ran among 64 ranks, and no proof says how much is enough.
  *
- * Link with libbridge.a, which `rt staticlib bridge` makes. */
+ * Link with libbridge.a, which `rt lib` makes in crates/bridge/out. */
 #ifndef GELVATOS_H
 #define GELVATOS_H
 

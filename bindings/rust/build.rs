@@ -1,4 +1,4 @@
-//! Links the proved library, which `rt staticlib bridge` makes. `GELVATOS_LIB` names another folder that has it.
+//! Links the proved library, which `rt lib` in crates/bridge makes. `GELVATOS_LIB` names another folder that has it.
 
 use std::env;
 use std::path::PathBuf;
@@ -6,11 +6,11 @@ use std::path::PathBuf;
 fn main() {
     let home = PathBuf::from(env::var_os("CARGO_MANIFEST_DIR").expect("set by cargo"));
     let folder = env::var_os("GELVATOS_LIB")
-        .map_or_else(|| home.join("../../target/staticlib"), PathBuf::from);
+        .map_or_else(|| home.join("../../crates/bridge/out"), PathBuf::from);
     let library = folder.join("libbridge.a");
     assert!(
         library.exists(),
-        "{} is missing: run `rt staticlib bridge` at the top of the repository",
+        "{} is missing: run `rt lib` in crates/bridge",
         library.display()
     );
     println!("cargo::rerun-if-env-changed=GELVATOS_LIB");
