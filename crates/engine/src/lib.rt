@@ -1,7 +1,7 @@
 // An engine that runs collective jobs, over any operation and any transport.
 #![tactic(auto)]
 
-ghost use Rattle.std.specs.Prelude.{◌≡◌, ◌+◌, ◌*◌, ◌^◌, ◌<◌, ◌≤◌, max, length, if◌then◌else◌, ◌==◌, nat_lt};
+ghost use Rattle.std.specs.Prelude.{◌≡◌, ◌+◌, ◌*◌, ◌^◌, ◌<◌, ◌≤◌, max, length, IfOk, if◌then◌else◌, ◌==◌, nat_lt};
 ghost use Rattle.std.specs.List.{AllByRecursion};
 ghost use Rattle.programme.specs.declared.Action.TheVariants.{Send, Take};
 ghost use Rattle.schedule.specs.Collective.{kind_of, root_of};
@@ -100,6 +100,7 @@ impl<O: Operation, T: Transport> Engine<O, T> {
         requires { Sound O.Operation.meaning T.Transport.meaning T.Transport.sound self.old }
         ensures sound { Sound O.Operation.meaning T.Transport.meaning T.Transport.sound self.new }
         ensures step { Steps O.Operation.meaning T.Transport.meaning T.Transport.sound self.old self.new (start (kind_of job) (root_of job) words.now) (start_answer result) }
+        ensures numbered { IfOk result (λ token. 1 ≤ token.number) }
     {
         if !self.is_fit() {
             return Err(StartFault::Unfit);

@@ -1,6 +1,6 @@
 // Allreduce: as many ranks as the greatest power of two exchange in pairs, step by step. The others, which are the surplus,
 // hand their value in at first and are handed the result at the end: below twice the surplus, even ranks are these.
-ghost use Rattle.std.specs.Prelude.{◌≡◌, ◌+◌, ◌*◌, ◌%◌, ◌^◌, ◌<◌, ◌≤◌, length, if◌then◌else◌, ◌≢◌, nat_eq};
+ghost use Rattle.std.specs.Prelude.{◌≡◌, ◌+◌, ◌*◌, ◌%◌, ◌^◌, ◌<◌, ◌≤◌, length, if◌then◌else◌, ◌≢◌, ◌==◌};
 ghost use Rattle.programme.specs.Levels.{floor_log, surplus};
 ghost use Rattle.programme.specs.Programme.{allreduce, bit, exchange, flip, rank_of};
 ghost use Rattle.programme.specs.declared.Merge.TheVariants.{Before, After};
@@ -96,7 +96,7 @@ fn even_action(ranks: usize, rank: usize, index: usize) -> Option<Action>
 
 // An odd rank below twice the surplus, which exchanges for the one before it too.
 fn odd_action(ranks: usize, rank: usize, index: usize) -> Option<Action>
-    requires { (ranks ≤ most_ranks) × ((rank < 2 * surplus ranks) × ((rank < ranks) × ((rank % 2 ≢ 0)))) }
+    requires { (ranks ≤ most_ranks) × ((rank < 2 * surplus ranks) × ((rank < ranks) × (rank % 2 ≢ 0))) }
     ensures { result ≡ slice_get (allreduce ranks rank) index }
 {
     let end = 2 * floor_log2(ranks) + 1;
@@ -148,7 +148,7 @@ pub(crate) fn length(ranks: usize, rank: usize) -> usize
 
 pub(crate) fn rounds(ranks: usize) -> usize
     requires { 0 < ranks }
-    ensures { result ≡ (if nat_eq (surplus ranks) 0 then floor_log ranks else floor_log ranks + 2) }
+    ensures { result ≡ (if surplus ranks == 0 then floor_log ranks else floor_log ranks + 2) }
 {
     let steps = floor_log2(ranks);
     if surplus_of(ranks) == 0 {

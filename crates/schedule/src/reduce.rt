@@ -1,6 +1,6 @@
 // Reduce: a tree towards rank 0, and a last message to another root. A rank takes at each step below its lowest bit, and
 // sends at the step of that bit; rank 0 takes at every step.
-ghost use Rattle.std.specs.Prelude.{◌≡◌, ◌+◌, ◌-◌, ◌<◌, ◌≤◌, length, if◌then◌else◌, nat_eq};
+ghost use Rattle.std.specs.Prelude.{◌≡◌, ◌+◌, ◌-◌, ◌<◌, ◌≤◌, length, if◌then◌else◌, ◌==◌};
 ghost use Rattle.programme.specs.Levels.{levels};
 ghost use Rattle.programme.specs.Programme.{reduce};
 ghost use Rattle.programme.specs.Formula.{takes};
@@ -107,7 +107,7 @@ pub(crate) fn length(ranks: usize, root: usize, rank: usize) -> usize
 }
 
 pub(crate) fn rounds(ranks: usize, root: usize) -> usize
-    ensures { result ≡ (if nat_eq root 0 then levels ranks else levels ranks + 1) }
+    ensures { result ≡ (if root == 0 then levels ranks else levels ranks + 1) }
 {
     let steps = ceil_log2(ranks);
     if root == 0 { steps } else { steps + 1 }
@@ -115,7 +115,7 @@ pub(crate) fn rounds(ranks: usize, root: usize) -> usize
 
 pub(crate) fn messages(ranks: usize, root: usize) -> usize
     requires { 0 < ranks }
-    ensures { result ≡ (if nat_eq root 0 then ranks - 1 else ranks) }
+    ensures { result ≡ (if root == 0 then ranks - 1 else ranks) }
 {
     if root == 0 { ranks - 1 } else { ranks }
 }

@@ -24,6 +24,7 @@ returns-then-not-is_fit g c =
     record {
       sound = c.requires;
       step = onward op net ok e e call (refused unfit) c.requires.stands.transport_sound refl (λ q s. s) (λ o h. unfit_step op net ok e o h k ws (c.if-not-is_fit.ensures o h));
+      numbered = tt;
     }
 
 pub returns-in_default : goal.returns-in_default
@@ -39,6 +40,7 @@ returns-in_default g c =
     record {
       sound = c.requires;
       step = onward op net ok e e call (refused bad_root) c.requires.stands.transport_sound refl (λ q s. s) (λ o h. root_step op net ok e o h k ws (c.if-not-is_fit.ensures o h) (λ l. bad (omega (arith, c.ranks-ranks.ensures), omega (arith, c.ranks-ranks.ensures, ranks_few op net ok e o h k ws))));
+      numbered = tt;
     }
 
 pub overflow_mul-ranks : goal.overflow_mul-ranks
@@ -70,6 +72,7 @@ returns-then-words-ranks g c =
     record {
       sound = c.requires;
       step = onward op net ok e e call (refused bad_length) c.requires.stands.transport_sound refl (λ q s. s) (λ o h. length-step op net ok e o h k ws (c.if-not-is_fit.ensures o h) rooted (λ l. c.if-words-ranks.true (l ∙ sym (ap₂ ◌*◌ c.ranks-ranks.ensures c.width.ensures))));
+      numbered = tt;
     }
 
 pub read_inputs-requires : goal.read_inputs-requires
@@ -104,6 +107,7 @@ returns-in_err-inputs g c =
       sound = c.requires;
       step = onward op net ok e e call (start_answer c.from_residual.result) c.requires.stands.transport_sound refl (λ p s. s)
           (λ o h. ap (λ a. (a, plain op net o e)) answer ∙ block_step op net ok e o h k ws (c.if-not-is_fit.ensures o h) rooted full b (c.in_err-inputs.ensures ∙ ap (λ n. padded (op e.operation) n (inputs_of 0 (blocks_read (op e.operation) n ws))) c.ranks-ranks.ensures));
+      numbered = rw q.1 tt;
     }
 
 pub returns-then-len-ge-MAX_PENDING : goal.returns-then-len-ge-MAX_PENDING
@@ -123,6 +127,7 @@ returns-then-len-ge-MAX_PENDING g c =
     record {
       sound = c.requires;
       step = onward op net ok e e call (refused four_pending) c.requires.stands.transport_sound refl (λ q s. s) (λ o h. four_step op net ok e o h k ws (c.if-not-is_fit.ensures o h) rooted full xs read (omega (arith, c.len.ensures, c.if-len-ge-MAX_PENDING.true)));
+      numbered = tt;
     }
 
 pub is_crowded-requires : goal.is_crowded-requires
@@ -146,6 +151,7 @@ returns-then-is_crowded g c =
     record {
       sound = c.requires;
       step = onward op net ok e e call (refused crowded) c.requires.stands.transport_sound refl (λ q s. s) (λ o h. crowded_step op net ok e o h k ws (c.if-not-is_fit.ensures o h) rooted full xs read few (c.if-is_crowded.ensures o h ∙ ap (λ d. crowds (plain op net o e) (kind_of d) (root_of d)) same));
+      numbered = tt;
     }
 
 pub returns-then-self-ge-MAX_STARTED : goal.returns-then-self-ge-MAX_STARTED
@@ -166,6 +172,7 @@ returns-then-self-ge-MAX_STARTED g c =
     record {
       sound = c.requires;
       step = onward op net ok e e call (refused numbers_spent) c.requires.stands.transport_sound refl (λ q s. s) (λ o h. spent_step op net ok e o h k ws (c.if-not-is_fit.ensures o h) rooted full xs read few (c.if-is_crowded.ensures o h ∙ ap (λ d. crowds (plain op net o e) (kind_of d) (root_of d)) same) c.if-self-ge-MAX_STARTED.true);
+      numbered = tt;
     }
 
 pub returns : goal.returns
@@ -192,4 +199,4 @@ returns g c =
     let steps = onward_among op net ok e _ call answer c.requires.stands.transport_sound refl
     (λ o h. started_ranks op net ok e o h k ws (c.if-not-is_fit.ensures o h) rooted full xs read few (c.if-is_crowded.ensures o h ∙ ap (λ d. crowds (plain op net o e) (kind_of d) (root_of d)) same) left sched same among o.ranks h.same_ranks now pushed h.good.sound.same_ranks)
     (λ o h. started_step op net ok e o h k ws (c.if-not-is_fit.ensures o h) rooted full xs read few (c.if-is_crowded.ensures o h ∙ ap (λ d. crowds (plain op net o e) (kind_of d) (root_of d)) same) left sched same among now pushed) in
-    record { sound = stays_sound op net ok e _ call answer c.requires steps; step = steps }
+    record { sound = stays_sound op net ok e _ call answer c.requires steps; step = steps; numbered = omega arith }
