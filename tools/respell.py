@@ -5,7 +5,7 @@ usage: tools/respell.py [--list]      at the top of the repository, once, on wha
 
 A name is ours if a file of specs/ or proofs/ gives it a type. Names that Rattle makes (goals and the steps of a proof), names
 of the library and names of src/ keep their spelling. A dash stays in a lemma behind one of the library's words, as in
-length-filed, and behind a fact, as in All-filed.
+length-filed, and behind a fact, as in All-filed. A fact that goes down a list is AllByRecursion, where port.py calls it All.
 """
 import collections
 import os
@@ -70,8 +70,9 @@ def definitions():
                 found[name].add("lemma")
     for path in files((".antt", ".rt")):
         text = bare(read(path))
-        for m in re.finditer(r"\bas ([A-Za-z][\w']*-[\w'-]+)", text):
-            found[m[1]].add("alias")
+        for m in re.finditer(r"(\S+) as ([A-Za-z][\w']*-[\w'-]+|[a-z][\w']*[A-Z][\w']*)", text):
+            # of a type or a variant where that has a capital
+            found[m[2]].add("alias" if re.match(r"[{(]?[A-Z]", m[1]) else "other word")
         if path.endswith(".antt"):
             for m in re.finditer(r"\blet ([a-z][\w']*-[\w'-]+)|[({]((?:[a-z][\w'-]* )+): |λ ((?:[a-z][\w'-]* ?)+)\.", text):
                 for name in (m[1] or m[2] or m[3]).split():
@@ -103,8 +104,10 @@ def camel(name):
 
 
 def respelt(name, kinds):
-    if "alias" in kinds and len(kinds) == 1:
+    if kinds == {"alias"}:
         return camel(name) if name[:1].isupper() else snake(name)
+    if kinds == {"other word"}:
+        return snake(name[:1].lower() + name[1:])
     if "type" in kinds and (len(kinds) == 1 or name[:1].isupper()):
         return camel(name)
     head, dash, rest = name.partition("-")
@@ -169,6 +172,9 @@ def main():
             return out[name]
 
         turned = TOKEN.sub(turn, text)
+        if "AllByRecursion as All" in turned:
+            turned = turned.replace("AllByRecursion as All", "AllByRecursion")
+            turned = re.sub(r"(?<![\w'.·◌-])All(?![\w'-])", "AllByRecursion", turned)
         if turned != text:
             with open(path, "w", encoding="utf-8") as f:
                 f.write(turned)

@@ -6,7 +6,7 @@ ghost use Rattle.std.specs.List.{flat_map};
 ghost use Rattle.ranks.specs.Ranks.{pair_ok};
 ghost use Rattle.transport.specs.Network.{Message, between, waiting as waiting_in_all, sending, done, carrying, some_moved, oldest, without, with_lists, put};
 ghost use Rattle.transport.specs.Many.{sent_all, carried_all};
-ghost use Rattle.segmented.specs.Segments.{pieces, block as BlockWords, cut, segments, decode, segmented as segmented_network, new_segmented, usable, Coded, Whole};
+ghost use Rattle.segmented.specs.Segments.{pieces, block as block_words, cut, segments, decode, segmented as segmented_network, new_segmented, usable, Coded, Whole};
 ghost use Rattle.segmented.specs.Shape.{segmented_shaped};
 
 use ranks::is_pair;
@@ -20,7 +20,7 @@ const BLOCK: usize = 8;
 // A block's length, its words and zeros.
 fn block_of(words: &[u32]) -> [u32; 8]
     requires { length words.now ≤ 7 }
-    ensures { result ≡ BlockWords words.now }
+    ensures { result ≡ block_words words.now }
 {
     let mut block = [0; BLOCK];
     let end = words.len() + 1;
@@ -111,7 +111,7 @@ fn take_segments<T: Transport>(
     requires coded { Coded T.Transport.most ((T.Transport.meaning below.old).arrived from to) }
     requires wide { length block.old ≡ 16 }
     ensures answer { result ≡ Ok (is_some (oldest tag (decode (pieces T.Transport.most) ((T.Transport.meaning below.old).arrived from to)))) }
-    ensures words { (m : Message) → oldest tag (decode (pieces T.Transport.most) ((T.Transport.meaning below.old).arrived from to)) ≡ Some m → take 8 block.new ≡ BlockWords m.words }
+    ensures words { (m : Message) → oldest tag (decode (pieces T.Transport.most) ((T.Transport.meaning below.old).arrived from to)) ≡ Some m → take 8 block.new ≡ block_words m.words }
     ensures after { T.Transport.meaning below.new ≡ with_lists (T.Transport.meaning below.old) (T.Transport.meaning below.old).under (put (T.Transport.meaning below.old).arrived from to (flat_map (segments T.Transport.most) (without tag (decode (pieces T.Transport.most) ((T.Transport.meaning below.old).arrived from to))))) }
     ensures kept { T.Transport.sound below.new }
 {
