@@ -1,16 +1,16 @@
 -- What the group answers, and what it stands for after a call to the transport below.
-use Rattle.std.proofs.Common.{◌≡◌, ℕ, ◌+◌, ◌<◌, ◌≤◌, Bool, true, false, cond, not, ◌&&◌, eqb, ltb, leb, ◌⊎◌, List, [], ◌∷◌, ◌++◌, length, get_or, sym, refl, ap, ◌∙◌, subst, ap₂, inl, inr, arith}
+use Rattle.std.proofs.Common.{◌≡◌, ℕ, ◌+◌, ◌<◌, Bool, true, false, cond, not, ◌&&◌, eqb, ltb, leb, ◌⊎◌, List, [], ◌∷◌, ◌++◌, length, get_or, sym, refl, ap, ◌∙◌, subst, ap₂, inl, inr, arith}
 use mathlib.Core.Path.{fun_ext}
-use Rattle.std.proofs.lemmas.Bool.{cases_Bool, and_parts, and_from, and_left, and_right, ne_eqb, eq-eqb, eqb-true, eqb-false, lt-ltb, true≢false}
+use Rattle.std.proofs.lemmas.Bool.{cases_Bool, cases_eq, and_parts, and_from, and_left, and_right, ne_eqb, eq-eqb, eqb-true, eqb-false, lt-ltb, true≢false}
 use Rattle.transport.specs.declared.Fault.TheVariants.{BadPair, TooLong, PairFull, NoRoom, ShortBuffer}
-use Rattle.transport.specs.Network.{Network, Message, Reply, refused, done, none, value, refuse_if, between, waiting, put, with_lists, between_reply, send_reply, sent, when_done, after_send, carry_reply, carried, after_carry, may_take, take_reply, after_take, taken_words, word_count, written, oldest, without, Shaped}
-use Rattle.ranks.specs.Ranks.{most_ranks, pair_ok, sum_below}
+use Rattle.transport.specs.Network.{Network, Message, Reply, nobody, refused, done, none, value, refuse_if, between, waiting, put, with_lists, between_reply, send_reply, sent, when_done, after_send, carry_reply, carried, after_carry, may_take, take_reply, after_take, taken_words, word_count, written, oldest, without, Shaped}
+use Rattle.ranks.specs.Ranks.{pair_ok, sum_below}
 use Rattle.ranks.proofs.Sums.{sum_same, sum_zeros}
 use Rattle.transport.proofs.Pairs.{pair_parts}
-use Rattle.transport.proofs.Shapes.{layer_open}
+use Rattle.transport.proofs.Shapes.{layer_closed, layer_open}
 use Rattle.transport.proofs.Tables.{put_is, put_here, put_other}
 use Rattle.transport.proofs.Many.{nothing_waits}
-use Rattle.group.specs.Members.{seen, open_group, grouped, Outside, GoodList, Grouping, new_group}
+use Rattle.group.specs.Members.{seen, open_group, grouped, Outside, GoodList, Grouping, Listed, new_group}
 use Rattle.group.proofs.Through.{sum_through}
 
 -- a group with ranks
@@ -117,7 +117,7 @@ module _ (lim c : ℕ) (table : List ℕ) (n : Network) (shape : Shaped lim n) (
       away (inr y) = and_right (eqb (at i) a) (eqb (at j) b) (ne_eqb (at j) b (y j hj))
 
   grouping_with : (u v : ℕ → ℕ → List Message) → ((a b : ℕ) → Outside c table a ⊎ Outside c table b → u a b ≡ []) → ((a b : ℕ) → Outside c table a ⊎ Outside c table b → v a b ≡ []) → Grouping c table (with_lists n u v)
-  grouping_with u v none-u none-v = record { few = s.few; long = s.long; inside = s.inside; distinct = s.distinct; under = λ _. none-u; arrived = λ _. none-v }
+  grouping_with u v none-u none-v = record { few = s.few; inside = s.inside; distinct = s.distinct; under = λ _. none-u; arrived = λ _. none-v }
 
   module _ (i j : ℕ) (pair : pair_ok c i j ≡ true) where
     there : pair_ok n.ranks (at i) (at j) ≡ true
@@ -264,37 +264,77 @@ module _ (lim c : ℕ) (table : List ℕ) (n : Network) (shape : Shaped lim n) (
           (grouping_with n.under (put n.arrived (at i) (at j) (without t (n.arrived (at i) (at j)))) (s.under h) (put_empty n.arrived i j (without t (n.arrived (at i) (at j))) hi hj (s.arrived h)))
           s
 
--- a new group
-module _ (lim : ℕ) (ranks table : List ℕ) (n : Network) (shape : Shaped lim n) (c : ℕ) (few : c ≤ most_ranks) (long : length table ≡ most_ranks)
-    (used : 0 < c → GoodList n.ranks ranks) (whole : 0 < c → c ≡ length ranks) (idle : 0 < c → waiting n ≡ 0)
-    (filled : (k : ℕ) → k < c → get_or table k 0 ≡ get_or ranks k 0)
+-- how many wait, where a group without ranks has none
+module _ (lim c : ℕ) (table : List ℕ) (n : Network) (shape : Shaped lim n) (s : Grouping c table n) where
+  waiting_closed : c ≡ 0 → 0 ≡ waiting (grouped lim c table n)
+  unfolding waiting
+  waiting_closed z = ap waiting (sym (layer_closed lim c (open_group c table n) z))
+
+  pub waiting_above : cond (eqb c 0) 0 (waiting n) ≡ waiting (grouped lim c table n)
+  waiting_above = by (cases_eq c 0)
+    where
+      by : (c ≡ 0) ⊎ (c ≡ 0 → ⊥) → cond (eqb c 0) 0 (waiting n) ≡ waiting (grouped lim c table n)
+      by (inl z) = ap (λ t. cond t 0 (waiting n)) (eq-eqb c 0 z) ∙ waiting_closed z
+      by (inr ne) =
+          let h : 0 < c = omega arith in
+          ap (λ t. cond t 0 (waiting n)) (ne_eqb c 0 ne) ∙ sym (waiting_same lim c table n shape s h) ∙ ap waiting (sym (open_is lim c table n h))
+
+-- a group of nobody
+pub empty_grouping : (table : List ℕ) (n : Network) → Grouping 0 table n
+empty_grouping table n = record {
+  few = omega arith;
+  inside = λ k h. absurd (no_less k h);
+  distinct = λ j k hj hk e. absurd (no_less k hk);
+  under = λ h a b _. absurd (no_less 0 h);
+  arrived = λ h a b _. absurd (no_less 0 h);
+}
   where
-    some_in : (k : ℕ) → k < c → 0 < c
-    some_in k h = omega arith
+    no_less : (k : ℕ) → k < 0 → ⊥
+    no_less k h = omega arith
 
-    pub new_grouping : Grouping c table n
+-- a new group
+module _ (lim : ℕ) (ranks : List ℕ) (n : Network) (shape : Shaped lim n) where
+  module _ (good : GoodList n.ranks ranks) (idle : waiting n ≡ 0) where
+    new_grouping : Grouping (length ranks) ranks n
     new_grouping = record {
-      few = few;
-      long = long;
-      inside = λ k h. subst (λ (x : ℕ). x < n.ranks) (sym (filled k h)) ((used (some_in k h)).inside k (below k h));
-      distinct = λ j k hj hk e. (used (some_in j hj)).distinct j k (below j hj) (below k hk) (sym (filled j hj) ∙ e ∙ filled k hk);
-      under = λ h a b _. (nothing_waits lim n shape (idle h) a b).0;
-      arrived = λ h a b _. (nothing_waits lim n shape (idle h) a b).1;
+      few = good.few;
+      inside = good.inside;
+      distinct = good.distinct;
+      under = λ _ a b _. (nothing_waits lim n shape idle a b).0;
+      arrived = λ _ a b _. (nothing_waits lim n shape idle a b).1;
     }
-      where
-        below : (k : ℕ) → k < c → k < length ranks
-        below k h = omega (arith, whole (some_in k h))
 
-    empty_seen : (f : ℕ → ℕ → List Message) → ((a b : ℕ) → f a b ≡ []) → seen c table f ≡ (λ _ _. [])
-    empty_seen f e = fun_ext (λ i. fun_ext (λ j. by i j (pair_ok c i j)))
+    empty_seen : (f : ℕ → ℕ → List Message) → ((a b : ℕ) → f a b ≡ []) → seen (length ranks) ranks f ≡ (λ _ _. [])
+    empty_seen f e = fun_ext (λ i. fun_ext (λ j. by i j (pair_ok (length ranks) i j)))
       where
-        by : (i j : ℕ) (t : Bool) → cond t (f (get_or table i 0) (get_or table j 0)) [] ≡ []
-        by i j true = e (get_or table i 0) (get_or table j 0)
+        by : (i j : ℕ) (t : Bool) → cond t (f (get_or ranks i 0) (get_or ranks j 0)) [] ≡ []
+        by i j true = e (get_or ranks i 0) (get_or ranks j 0)
         by i j false = refl
 
-    pub new_is : 0 < c → grouped lim c table n ≡ new_group c n
-    new_is h =
-        open_is lim c table n h
-        ∙ ap₂ (with_lists (open_group c table n))
-        (empty_seen n.under (λ a b. (nothing_waits lim n shape (idle h) a b).0))
-        (empty_seen n.arrived (λ a b. (nothing_waits lim n shape (idle h) a b).1))
+    new_is : grouped lim (length ranks) ranks n ≡ new_group (length ranks) n
+    new_is =
+        open_is lim (length ranks) ranks n good.some
+        ∙ ap₂ (with_lists (open_group (length ranks) ranks n))
+        (empty_seen n.under (λ a b. (nothing_waits lim n shape idle a b).0))
+        (empty_seen n.arrived (λ a b. (nothing_waits lim n shape idle a b).1))
+
+  -- its members are the ranks listed, or none
+  module _ (members : List ℕ) (some : 0 < length members → Listed n ranks members) where
+    pub members_grouping : Grouping (length members) members n
+    members_grouping = by (cases_eq (length members) 0)
+      where
+        by : (length members ≡ 0) ⊎ (length members ≡ 0 → ⊥) → Grouping (length members) members n
+        by (inl z) = subst (λ (c : ℕ). Grouping c members n) (sym z) (empty_grouping members n)
+        by (inr ne) =
+            let k = some (omega arith) in
+            subst (λ (l : List ℕ). Grouping (length l) l n) (sym k.2) (new_grouping k.0 k.1)
+
+    pub members_all : GoodList n.ranks ranks → waiting n ≡ 0 → members ≡ ranks → grouped lim (length members) members n ≡ new_group (length ranks) n
+    members_all good idle e = ap (λ l. grouped lim (length l) l n) e ∙ new_is good idle
+
+    pub members_none : (Listed n ranks members → ⊥) → grouped lim (length members) members n ≡ nobody lim
+    members_none never = by (cases_eq (length members) 0)
+      where
+        by : (length members ≡ 0) ⊎ (length members ≡ 0 → ⊥) → grouped lim (length members) members n ≡ nobody lim
+        by (inl z) = layer_closed lim (length members) (open_group (length members) members n) z
+        by (inr ne) = absurd (never (some (omega arith)))

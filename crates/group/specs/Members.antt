@@ -1,7 +1,7 @@
 -- A group of ranks of a transport, and the network that it stands for.
 use Rattle.std.specs.Prelude.{◌≡◌, ℕ, ◌<◌, ◌≤◌, cond, ◌⊎◌, List, [], length, ◌≢◌, slice_index}
 use Rattle.ranks.specs.Ranks.{most_ranks, pair_ok}
-use Rattle.transport.specs.Network.{Network, Message, quiet, when_ranks}
+use Rattle.transport.specs.Network.{Network, Message, quiet, when_ranks, waiting}
 
 -- a table of pairs below, seen by the first c of a list of ranks
 abbrev pub seen : ℕ → List ℕ → (ℕ → ℕ → List Message) → ℕ → ℕ → List Message
@@ -41,10 +41,9 @@ pub record GoodList (p : ℕ) (ranks : List ℕ) : Type 0 where
   pub inside : Inside (length ranks) ranks p
   pub distinct : Distinct (length ranks) ranks
 
--- a sound group: the first c of its table are different ranks below, and messages wait below only between these
+-- a sound group: the first c of its list are different ranks below, and messages wait below only between these
 pub record Grouping (c : ℕ) (table : List ℕ) (n : Network) : Type 0 where
   pub few : c ≤ most_ranks
-  pub long : length table ≡ most_ranks
   pub inside : Inside c table n.ranks
   pub distinct : Distinct c table
   pub under : 0 < c → (a b : ℕ) → Outside c table a ⊎ Outside c table b → n.under a b ≡ []
@@ -53,3 +52,7 @@ pub record Grouping (c : ℕ) (table : List ℕ) (n : Network) : Type 0 where
 -- a new group of that many ranks
 abbrev pub new_group : ℕ → Network → Network
 new_group c n = quiet c n.depth n.room n.limit
+
+-- these are the ranks of a good list, and nothing waits below
+abbrev pub Listed : Network → (ranks members : List ℕ) → Type 0
+Listed n ranks members = GoodList n.ranks ranks × (waiting n ≡ 0) × (members ≡ ranks)

@@ -1,189 +1,145 @@
 // Some ranks of any transport, with numbers of their own.
 #![tactic(auto)]
 
-ghost use Rattle.std.specs.Prelude.{◌≡◌, ℕ, ◌+◌, ◌-◌, ◌<◌, ◌≤◌, true, false, length, Decides, ◌≢◌, nat_lt, slice_index};
-ghost use Rattle.ranks.specs.Ranks.{most_ranks};
+ghost use Rattle.std.specs.Prelude.{◌≡◌, ℕ, ◌+◌, ◌-◌, ◌<◌, ◌≤◌, true, false, length, ◌≢◌, OnSome, IfSome, IfNone, OnOk, IfOk, OnErr, IfErr, if◌then◌else◌, ◌==◌, slice_index};
+ghost use Rattle.arrayvec.specs.ArrayVec.{array_vec_len};
+ghost use Rattle.ranks.specs.Ranks.{pair_ok};
 ghost use Rattle.transport.specs.Network.{waiting as waiting_in_all, nobody};
-ghost use Rattle.group.specs.Members.{grouped, new_group, GoodList, Grouping};
+ghost use Rattle.transport.specs.declared.Fault.TheVariants.{BadPair};
+ghost use Rattle.group.specs.Members.{grouped, new_group, GoodList, Grouping, Listed};
 ghost use Rattle.group.specs.Shape.{grouped_shaped};
 
-use ranks::{MAX_RANKS, is_pair};
+use arrayvec::ArrayVec;
+use ranks::{MAX_RANKS, Pair};
 use transport::{Fault, Transport};
 
-// Whether a rank is among those listed.
-fn lists(ranks: &[usize], rank: usize) -> bool
-    ensures { Decides result ((k : ℕ) × (k < length ranks.now) × (slice_index ranks.now k ≡ rank)) }
+// The ranks listed, where there are some and they are different ranks below.
+fn members_of(ranks: &[usize], below: usize) -> Option<ArrayVec<usize, MAX_RANKS>>
+    ensures good { OnSome result (GoodList below ranks.now) }
+    ensures listed { IfSome result (λ members. members.items ≡ ranks.now) }
+    ensures bad { IfNone result (GoodList below ranks.now → ⊥) }
 {
-    for listed in ranks {
-        if *listed == rank {
-            return true;
-        }
+    if ranks.is_empty() || ranks.len() > MAX_RANKS {
+        return None;
     }
-    false
+    let mut members = ArrayVec::new();
+    for rank in ranks {
+        if *rank >= below || members.contains(rank) {
+            return None;
+        }
+        members.push(*rank);
+    }
+    Some(members)
 }
 
-// Fills the table with the ranks listed, and answers how many they are, or 0 where the list is not good.
-fn fill_table(ranks: &[usize], below: usize, table: &mut [usize]) -> usize
-    requires { length table.old ≡ most_ranks }
-    ensures few { result ≤ most_ranks }
-    ensures good { GoodList below ranks.now → result ≡ length ranks.now }
-    ensures bad { (GoodList below ranks.now → ⊥) → result ≡ 0 }
-    ensures used { 0 < result → GoodList below ranks.now }
-    ensures filled { (k : ℕ) → k < result → slice_index table.new k ≡ slice_index ranks.now k }
+// The members of a new group: the ranks listed, or none where the list is not good or something waits.
+fn new_members<T: Transport>(below: &T, ranks: &[usize]) -> ArrayVec<usize, MAX_RANKS>
+    ensures all { GoodList (T.meaning below.now).ranks ranks.now → waiting_in_all (T.meaning below.now) ≡ 0 → result.items ≡ ranks.now }
+    ensures some { 0 < array_vec_len result → Listed (T.meaning below.now) ranks.now result.items }
 {
-    let count = ranks.len();
-    if count > MAX_RANKS {
-        return 0;
+    if below.waiting() > 0 {
+        return ArrayVec::new();
     }
-    for i in 0..count {
-        let rank = ranks[i];
-        if rank >= below || lists(&ranks[0..i], rank) {
-            return 0;
-        }
-        table[i] = rank;
-    }
-    count
+    members_of(ranks, below.ranks()).unwrap_or_default()
 }
 
-// Rank i of the group is entry i of the table, of which the first `count` are in use.
+// Rank i of the group is member i.
 #[derive(Drop)]
-pub struct Group<T> {
+pub struct Group<T: Transport> {
     below: T,
-    table: [usize; MAX_RANKS],
-    count: usize,
+    members: ArrayVec<usize, MAX_RANKS>,
+    ghost grouping: { Grouping (array_vec_len members) members.items (T.meaning below) },
 }
 
 impl<T: Transport> Group<T> {
     // The ranks listed, or none where the list is not good or something waits.
     pub fn new(below: T, ranks: &[usize]) -> Group<T>
-        requires { T.Transport.sound below }
         ensures held { result.below ≡ below }
-        ensures good { GoodList (T.Transport.meaning below).ranks ranks.now → waiting_in_all (T.Transport.meaning below) ≡ 0 → grouped T.Transport.most result.count result.table (T.Transport.meaning result.below) ≡ new_group (length ranks.now) (T.Transport.meaning below) }
-        ensures bad { (GoodList (T.Transport.meaning below).ranks ranks.now → ⊥) → grouped T.Transport.most result.count result.table (T.Transport.meaning result.below) ≡ nobody T.Transport.most }
-        ensures busy { (waiting_in_all (T.Transport.meaning below) ≢ 0) → grouped T.Transport.most result.count result.table (T.Transport.meaning result.below) ≡ nobody T.Transport.most }
-        ensures sound { T.Transport.sound result.below × Grouping result.count result.table (T.Transport.meaning result.below) }
+        ensures good { GoodList (T.meaning below).ranks ranks.now → waiting_in_all (T.meaning below) ≡ 0 → grouped T.most (array_vec_len result.members) result.members.items (T.meaning result.below) ≡ new_group (length ranks.now) (T.meaning below) }
+        ensures bad { (GoodList (T.meaning below).ranks ranks.now → ⊥) → grouped T.most (array_vec_len result.members) result.members.items (T.meaning result.below) ≡ nobody T.most }
+        ensures busy { (waiting_in_all (T.meaning below) ≢ 0) → grouped T.most (array_vec_len result.members) result.members.items (T.meaning result.below) ≡ nobody T.most }
     {
-        let mut table = [0; MAX_RANKS];
-        if below.waiting() > 0 {
-            return Group {
-                below,
-                table,
-                count: 0,
-            };
-        }
-        let count = fill_table(ranks, below.ranks(), &mut table);
-        Group {
-            below,
-            table,
-            count,
-        }
+        let members = new_members(&below, ranks);
+        Group { below, members }
     }
 
     // Ends the layer: the transport below, as it stands.
     pub fn into_inner(self) -> T
-        requires { T.Transport.sound self.below }
         ensures below { result ≡ self.below }
-        ensures sound { T.Transport.sound result }
     {
-        let Group {
-            below,
-            table: _,
-            count: _,
-        } = self;
+        let Group { below, members: _ } = self;
         below
     }
 
-    // Whether the group has any ranks.
-    fn has_ranks(&self) -> bool
-        ensures { result ≡ nat_lt 0 self.now.count }
+    // A number of the network below: 0 where the group has no ranks.
+    fn seen(&self, number: usize) -> usize
+        ensures { result ≡ (if array_vec_len self.now.members == 0 then 0 else number) }
     {
-        0 < self.count
+        if self.members.is_empty() { 0 } else { number }
     }
 
     // Two ranks of the group, as they are numbered below.
-    fn pair_below(&self, from: usize, to: usize) -> (usize, usize)
-        requires { (from < most_ranks) × (to < most_ranks) }
-        ensures { result ≡ (slice_index self.now.table from, slice_index self.now.table to) }
+    fn pair_below(&self, pair: Pair) -> Result<Pair, Fault>
+        ensures ok { IfOk result (λ there. (there.from ≡ slice_index self.now.members.items pair.from) × (there.to ≡ slice_index self.now.members.items pair.to)) }
+        ensures good { OnOk result (pair_ok (array_vec_len self.now.members) pair.from pair.to ≡ true) }
+        ensures bad { OnErr result (pair_ok (array_vec_len self.now.members) pair.from pair.to ≡ false) }
+        ensures fault { IfErr result (λ fault. fault ≡ BadPair) }
     {
-        (self.table[from], self.table[to])
+        if !pair.is_among(self.members.len()) {
+            return Err(Fault::BadPair);
+        }
+        Ok(Pair {
+            from: self.members[pair.from],
+            to: self.members[pair.to],
+        })
     }
 }
 
 impl<T: Transport> Transport for Group<T> {
     const MESSAGE_LIMIT: usize = T::MESSAGE_LIMIT;
 
-    ghost most = { T.Transport.most };
+    ghost most = { T.most };
 
-    ghost meaning = { λ s. grouped T.Transport.most s.count s.table (T.Transport.meaning s.below) };
-
-    ghost sound = { λ s. T.Transport.sound s.below × Grouping s.count s.table (T.Transport.meaning s.below) };
-
-    ghost shaped = { λ s h. grouped_shaped T.Transport.most s.count s.table (T.Transport.meaning s.below) (T.Transport.shaped s.below h.0) h.1 };
+    ghost meaning = { λ s. grouped T.most (array_vec_len s.members) s.members.items (T.meaning s.below) };
 
     fn limit(&self) -> usize {
         self.below.limit()
     }
 
     fn ranks(&self) -> usize {
-        self.count
+        self.members.len()
     }
 
     fn depth(&self) -> usize {
-        if !self.has_ranks() {
-            return 0;
-        }
-        self.below.depth()
+        self.seen(self.below.depth())
     }
 
     fn room(&self) -> usize {
-        if !self.has_ranks() {
-            return 0;
-        }
-        self.below.room()
+        self.seen(self.below.room())
     }
 
     fn waiting(&self) -> usize {
-        if !self.has_ranks() {
-            return 0;
-        }
-        self.below.waiting()
+        self.seen(self.below.waiting())
     }
 
-    fn waiting_between(&self, from: usize, to: usize) -> Result<usize, Fault> {
-        if !is_pair(self.count, from, to) {
-            return Err(Fault::BadPair);
-        }
-        let (from, to) = self.pair_below(from, to);
-        self.below.waiting_between(from, to)
+    fn waiting_between(&self, pair: Pair) -> Result<usize, Fault> {
+        self.below.waiting_between(self.pair_below(pair)?)
     }
 
-    fn send(&mut self, from: usize, to: usize, tag: u32, words: &[u32]) -> Result<(), Fault> {
-        if !is_pair(self.count, from, to) {
-            return Err(Fault::BadPair);
-        }
-        let (from, to) = self.pair_below(from, to);
-        self.below.send(from, to, tag, words)
+    fn send(&mut self, pair: Pair, tag: u32, words: &[u32]) -> Result<(), Fault> {
+        let below = self.pair_below(pair)?;
+        self.below.send(below, tag, words)
     }
 
-    fn carry(&mut self, from: usize, to: usize) -> Result<bool, Fault> {
-        if !is_pair(self.count, from, to) {
-            return Err(Fault::BadPair);
-        }
-        let (from, to) = self.pair_below(from, to);
-        self.below.carry(from, to)
+    fn carry(&mut self, pair: Pair) -> Result<bool, Fault> {
+        let below = self.pair_below(pair)?;
+        self.below.carry(below)
     }
 
-    fn take(
-        &mut self,
-        from: usize,
-        to: usize,
-        tag: u32,
-        buffer: &mut [u32],
-    ) -> Result<Option<usize>, Fault> {
-        if !is_pair(self.count, from, to) {
-            return Err(Fault::BadPair);
-        }
-        let (from, to) = self.pair_below(from, to);
-        self.below.take(from, to, tag, buffer)
+    fn take(&mut self, pair: Pair, tag: u32, buffer: &mut [u32]) -> Result<Option<usize>, Fault> {
+        let below = self.pair_below(pair)?;
+        self.below.take(below, tag, buffer)
     }
+
+    ghost shaped = { λ s. grouped_shaped T.most (array_vec_len s.members) s.members.items (T.meaning s.below) (T.shaped s.below) s.grouping };
 }

@@ -1,4 +1,5 @@
 pub mod Boxes
 pub mod Calls
 pub mod Rows
-pub mod Writes
+pub mod Searches
+pub mod Words

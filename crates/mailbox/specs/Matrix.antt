@@ -1,11 +1,11 @@
 -- Which network a matrix of mailboxes stands for.
 use Rattle.std.specs.Prelude.{◌≡◌, ℕ, ◌*◌, ◌≤◌, Bool, true, cond, ◌&&◌, List, [], length, replicate, nat_le}
+use Rattle.std.proofs.Props.{props}
 use Rattle.ranks.specs.Ranks.{most_ranks, pair_ok}
 use Rattle.transport.specs.Network.{Network, Message, quiet, nobody, waiting}
 use Rattle.transport.specs.Stored.{listed}
 use Rattle.mailbox.specs.declared.Slot.{Slot}
-use Rattle.mailbox.specs.declared.Mailbox.{Mailbox}
-use Rattle.mailbox.specs.Slots.{message_of, is_under, is_arrived, box, Filed}
+use Rattle.mailbox.specs.Slots.{message_of, is_under, is_arrived, box, Filed, Filed-prop}
 
 -- the most messages that may wait between two ranks
 abbrev pub most_depth : ℕ
@@ -20,7 +20,7 @@ abbrev pub mailbox_network : (p d : ℕ) → List ℕ → Network
 mailbox_network p d ws =
     record { ranks = p; depth = d; room = p * p * d; limit = 2; under = filed_lists p d ws is_under; arrived = filed_lists p d ws is_arrived }
 
--- a sound matrix: so many ranks, that depth, so many messages that wait, and the words
+-- a sound matrix: so many ranks, that depth, so many messages that wait, and the words; `new` gives one and the calls keep it
 pub record SoundBox (p d used : ℕ) (ws : List ℕ) : Type 0 where
   pub few : p ≤ most_ranks
   pub shallow : d ≤ most_depth
@@ -29,13 +29,8 @@ pub record SoundBox (p d used : ℕ) (ws : List ℕ) : Type 0 where
   pub filed : (a b : ℕ) → pair_ok p a b ≡ true → Filed (box p d ws a b)
   pub counted : used ≡ waiting (mailbox_network p d ws)
 
--- the network that a matrix stands for
-abbrev pub mailbox_meaning : Mailbox → Network
-mailbox_meaning m = mailbox_network m.ranks m.depth m.words.now
-
--- the states that `new` gives and that the calls keep
-abbrev pub MailboxSound : Mailbox → Type 0
-MailboxSound m = SoundBox m.ranks m.depth m.used m.words.now
+pub SoundBox-prop : (p d used : ℕ) (ws : List ℕ) → IsProp (SoundBox p d used ws)
+SoundBox-prop p d used ws = Prim.hlevel (Filed-prop, props)
 
 -- a matrix of p ranks and depth d may be made of that many lent words
 abbrev pub usable : (p d lent : ℕ) → Bool

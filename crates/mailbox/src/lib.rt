@@ -1,15 +1,16 @@
 // A matrix of mailboxes over lent words: a row of slots for each ordered pair of ranks.
 #![tactic(auto)]
 
-ghost use Rattle.std.specs.Prelude.{◌≡◌, ℕ, ◌+◌, ◌-◌, ◌*◌, ◌<◌, ◌≤◌, true, false, ◌⊎◌, ◌++◌, length, drop, ◌≢◌};
+ghost use Rattle.std.specs.Prelude.{◌≡◌, ℕ, ◌+◌, ◌-◌, ◌*◌, ◌<◌, ◌≤◌, true, false, ◌++◌, length, take, drop, set, map, position};
+ghost use Rattle.std.specs.List.{HoldsAt};
 ghost use Rattle.ranks.specs.Ranks.{most_ranks, pair_ok};
 ghost use Rattle.transport.specs.Network.{message};
-ghost use Rattle.transport.specs.Stored.{Found};
-ghost use Rattle.mailbox.specs.Matrix.{mailbox_meaning, MailboxSound, most_depth, usable, new_network, new_words};
+ghost use Rattle.mailbox.specs.Matrix.{mailbox_network, SoundBox, SoundBox-prop, most_depth, usable, new_network, new_words};
 ghost use Rattle.mailbox.specs.Shape.{mailbox_shaped};
-ghost use Rattle.mailbox.specs.Slots.{message_of, words_of, slot_at, is_free, is_under, is_arrived, fits, row, box, base as first_slot};
+ghost use Rattle.mailbox.specs.Slots.{slot_of, slots_of, message_in, message_of, words_of, count_of, is_free, is_under, is_tagged, arrived, taken_out, box, base};
 
-use ranks::{MAX_RANKS, is_pair};
+use ranks::{MAX_RANKS, Pair};
+use std::ops::Range;
 use transport::{Fault, Transport};
 
 // How many words a slot has.
@@ -18,149 +19,188 @@ const SLOT_WORDS: usize = 4;
 // The most messages that may wait between two ranks.
 const MAX_DEPTH: usize = 64;
 
-// A copy of one slot. Its mark is 0 where it is free, 1 more than the number of words where it has a message under way,
-// and 4 more where it has one that has arrived.
+// A message: its tag, how many words it has, and those words.
 #[derive(Clone, Copy)]
-struct Slot {
-    mark: u32,
+struct Letter {
     tag: u32,
+    count: usize,
     first: u32,
     second: u32,
 }
 
-// Slot i of some words.
-fn read_slot(words: &[u32], i: usize) -> Slot
-    requires { 4 * i + 3 < length words.now }
-    ensures { result ≡ slot_at words.now i }
-{
-    let at = SLOT_WORDS * i;
-    Slot {
-        mark: words[at],
-        tag: words[at + 1],
-        first: words[at + 2],
-        second: words[at + 3],
+impl Letter {
+    fn new(tag: u32, words: &[u32]) -> Letter
+        requires { length words.now ≤ 2 }
+        ensures message { message_in result ≡ message tag words.now }
+        ensures count { result.count ≤ 2 }
+    {
+        Letter {
+            tag,
+            count: words.len(),
+            first: words.first().copied().unwrap_or(0),
+            second: words.get(1).copied().unwrap_or(0),
+        }
     }
 }
 
-// Writes slot i of some words.
-fn write_slot(words: &mut [u32], i: usize, slot: Slot)
-    requires { 4 * i + 3 < length words.old }
-    ensures here { slot_at words.new i ≡ slot }
-    ensures others { (j : ℕ) → (j ≢ i) → slot_at words.new j ≡ slot_at words.old j }
-{
-    let at = SLOT_WORDS * i;
-    words[at] = slot.mark;
-    words[at + 1] = slot.tag;
-    words[at + 2] = slot.first;
-    words[at + 3] = slot.second;
-}
-
-// What is looked for among the slots of a pair.
+// What stands in a slot.
 #[derive(Clone, Copy)]
-enum Wanted {
+enum Slot {
     Free,
-    UnderWay,
-    Arrived(u32),
+    UnderWay(Letter),
+    Arrived(Letter),
 }
 
 impl Slot {
-    fn is_wanted(&self, wanted: Wanted) -> bool
-        ensures { result ≡ fits wanted self.now }
+    // The slot that four words stand for: a mark, the message's tag and its words. The mark is 0 where the slot is free, 1 more
+    // than the message's length where it is under way, and 4 more where it has arrived; a matrix has no mark above 6.
+    fn read(words: &[u32]) -> Slot
+        ensures { result ≡ slot_of words.now }
     {
-        match wanted {
-            Wanted::Free => self.mark == 0,
-            Wanted::UnderWay => 1 <= self.mark && self.mark <= 3,
-            Wanted::Arrived(tag) => 4 <= self.mark && self.mark <= 6 && self.tag == tag,
+        match words {
+            [mark @ 1..=3, tag, first, second] => Slot::UnderWay(Letter {
+                tag: *tag,
+                count: (*mark - 1) as usize,
+                first: *first,
+                second: *second,
+            }),
+            [mark @ 4.., tag, first, second] => Slot::Arrived(Letter {
+                tag: *tag,
+                count: (*mark - 4) as usize,
+                first: *first,
+                second: *second,
+            }),
+            _ => Slot::Free,
+        }
+    }
+
+    // The four words that stand for a slot.
+    fn words(self) -> [u32; SLOT_WORDS]
+        requires { count_of self ≤ 2 }
+        ensures { slot_of result ≡ self }
+    {
+        match self {
+            Slot::Free => [0; SLOT_WORDS],
+            Slot::UnderWay(letter) => [
+                letter.count as u32 + 1,
+                letter.tag,
+                letter.first,
+                letter.second,
+            ],
+            Slot::Arrived(letter) => [
+                letter.count as u32 + 4,
+                letter.tag,
+                letter.first,
+                letter.second,
+            ],
+        }
+    }
+
+    fn is_free(self) -> bool
+        ensures { result ≡ is_free self }
+    {
+        matches!(self, Slot::Free)
+    }
+
+    fn is_under_way(self) -> bool
+        ensures { result ≡ is_under self }
+    {
+        matches!(self, Slot::UnderWay(_))
+    }
+
+    fn has_arrived(self, tag: u32) -> bool
+        ensures { result ≡ is_tagged tag self }
+    {
+        matches!(self, Slot::Arrived(letter) if letter.tag == tag)
+    }
+
+    // The slot with its message arrived.
+    fn arrived(self) -> Slot
+        ensures { result ≡ arrived self }
+    {
+        match self {
+            Slot::Free => Slot::Free,
+            Slot::UnderWay(letter) | Slot::Arrived(letter) => Slot::Arrived(letter),
+        }
+    }
+
+    // The words of its message over the front of a buffer, and how many they are.
+    fn deliver(self, buffer: &mut [u32]) -> usize
+        requires { (count_of self ≤ 2) × (2 ≤ length buffer.old) }
+        ensures count { result ≡ length (words_of self) }
+        ensures words { buffer.new ≡ words_of self ++ drop (length (words_of self)) buffer.old }
+    {
+        match self {
+            Slot::Free => 0,
+            Slot::UnderWay(letter) | Slot::Arrived(letter) => {
+                let words = [letter.first, letter.second];
+                buffer[..letter.count].copy_from_slice(&words[..letter.count]);
+                letter.count
+            }
         }
     }
 }
 
-// The place in a row of slots of the first that is wanted.
-fn find(words: &[u32], base: usize, depth: usize, wanted: Wanted) -> Option<usize>
-    requires { 4 * (base + depth) ≤ length words.now }
-    ensures { Found (fits wanted) (row (slot_at words.now) base depth) result }
+// The slot at a place of a row.
+fn read_slot(row: &[u32], place: usize) -> Slot
+    requires { 4 * place + 4 ≤ length row.now }
+    ensures { HoldsAt (λ slot. slot ≡ result) (slots_of row.now) place }
 {
-    for k in 0..depth {
-        if read_slot(words, base + k).is_wanted(wanted) {
-            return Some(k);
-        }
-    }
-    None
+    Slot::read(&row[SLOT_WORDS * place..SLOT_WORDS * (place + 1)])
 }
 
-// Takes a message out of place `at` of a row: the slots behind it move down by one, and the last one is free.
-// Of `used` messages in all, the answer is how many are left.
-fn remove(words: &mut [u32], used: usize, base: usize, depth: usize, at: usize) -> usize
-    requires { (4 * (base + depth) ≤ length words.old) × ((at < depth) × (0 < used)) }
-    ensures below { (j : ℕ) → j < base + at → slot_at words.new j ≡ slot_at words.old j }
-    ensures moved { (j : ℕ) → base + at ≤ j → j + 1 < base + depth → slot_at words.new j ≡ slot_at words.old (j + 1) }
-    ensures last { is_free (slot_at words.new (base + depth - 1)) ≡ true }
-    ensures above { (j : ℕ) → base + depth ≤ j → slot_at words.new j ≡ slot_at words.old j }
+// Writes a slot at a place of a row.
+fn write_slot(row: &mut [u32], place: usize, slot: Slot)
+    requires { (4 * place + 4 ≤ length row.old) × (count_of slot ≤ 2) }
+    ensures { slots_of row.new ≡ set (slots_of row.old) place slot }
+{
+    row[SLOT_WORDS * place..SLOT_WORDS * (place + 1)].copy_from_slice(&slot.words());
+}
+
+// The words behind a slot move down over it.
+#[tactic(auto, using(crate::proofs::Words::gap_closed))]
+fn close_gap(row: &mut [u32], place: usize)
+    requires { 4 * place + 4 ≤ length row.old }
+    ensures { take (length row.old - 4) row.new ≡ take (4 * place) row.old ++ drop (4 * (place + 1)) row.old }
+{
+    row.copy_within(SLOT_WORDS * (place + 1).., SLOT_WORDS * place);
+}
+
+// Takes one of so many messages out of its row: the slots behind it move down by one place, and the last is free.
+// Answers how many messages are left.
+fn remove(row: &mut [u32], place: usize, used: usize) -> usize
+    requires place { (4 * place + 4 ≤ length row.old) × (4 * length (slots_of row.old) ≡ length row.old) }
+    requires used { 1 ≤ used }
+    ensures row { slots_of row.new ≡ taken_out (slots_of row.old) place }
     ensures left { result ≡ used - 1 }
 {
-    let mut k = base + at;
-    let end = base + depth - 1;
-    while k < end {
-        let slot = read_slot(words, k + 1);
-        write_slot(words, k, slot);
-        k += 1;
-    }
-    let free = Slot {
-        mark: 0,
-        tag: 0,
-        first: 0,
-        second: 0,
-    };
-    write_slot(words, end, free);
+    close_gap(row, place);
+    let last = row.len() - SLOT_WORDS;
+    row[last..].fill(0);
     used - 1
 }
 
-// The first slot of a pair.
-fn base_of(ranks: usize, depth: usize, from: usize, to: usize) -> usize
-    requires { (ranks ≤ most_ranks) × ((depth ≤ most_depth) × ((from < ranks) × (to < ranks))) }
-    ensures { result ≡ first_slot ranks depth from to }
+// The place of the first free slot of a row.
+fn first_free(row: &[[u32; SLOT_WORDS]]) -> Option<usize>
+    ensures { result ≡ position (λ words. is_free (slot_of words)) row.now }
 {
-    (from * ranks + to) * depth
+    row.iter().position(|words| Slot::read(words).is_free())
 }
 
-// A message under way.
-fn slot_of(tag: u32, words: &[u32]) -> Slot
-    requires { length words.now ≤ 2 }
-    ensures under { is_under result ≡ true }
-    ensures message { message_of result ≡ message tag words.now }
+// The place of the oldest message under way of a row.
+fn first_under_way(row: &[[u32; SLOT_WORDS]]) -> Option<usize>
+    ensures { result ≡ position (λ words. is_under (slot_of words)) row.now }
 {
-    match words {
-        [] => Slot {
-            mark: 1,
-            tag,
-            first: 0,
-            second: 0,
-        },
-        [a] => Slot {
-            mark: 2,
-            tag,
-            first: *a,
-            second: 0,
-        },
-        [a, b, ..] => Slot {
-            mark: 3,
-            tag,
-            first: *a,
-            second: *b,
-        },
-    }
+    row.iter()
+        .position(|words| Slot::read(words).is_under_way())
 }
 
-// The words of a message that has arrived over the front of a buffer, and how many they are.
-fn deliver(slot: Slot, buffer: &mut [u32]) -> usize
-    requires { (4 ≤ slot.mark) × ((slot.mark ≤ 6) × (2 ≤ length buffer.old)) }
-    ensures count { result ≡ length (words_of slot) }
-    ensures words { buffer.new ≡ words_of slot ++ drop (length (words_of slot)) buffer.old }
+// The place of the oldest message of a row that has arrived with a tag.
+fn first_arrived(row: &[[u32; SLOT_WORDS]], tag: u32) -> Option<usize>
+    ensures { result ≡ position (λ words. is_tagged tag (slot_of words)) row.now }
 {
-    let words = [slot.first, slot.second];
-    let length = (slot.mark - 4) as usize;
-    buffer[0..length].copy_from_slice(&words[0..length]);
-    length
+    row.iter()
+        .position(|words| Slot::read(words).has_arrived(tag))
 }
 
 // How many slots a matrix has.
@@ -189,13 +229,13 @@ pub struct Mailbox<'a> {
     ranks: usize,
     depth: usize,
     used: usize,
+    ghost sound: { SoundBox ranks depth used words.now } by { SoundBox-prop ranks depth used words.now },
 }
 
 impl<'a> Mailbox<'a> {
     // A matrix of so many ranks and that depth over the first of the lent words, which become zeros.
     pub fn new(ranks: usize, depth: usize, words: &'a mut [u32]) -> Mailbox<'a>
-        ensures meaning { mailbox_meaning result ≡ new_network ranks depth (length words.old) }
-        ensures sound { MailboxSound result }
+        ensures meaning { mailbox_network result.ranks result.depth result.words.now ≡ new_network ranks depth (length words.old) }
         ensures written { result.words.now ≡ new_words ranks depth words.old }
     {
         if !is_usable(ranks, depth, words.len()) {
@@ -217,21 +257,32 @@ impl<'a> Mailbox<'a> {
         }
     }
 
-    // Slot i.
-    fn slot(&self, i: usize) -> Slot
-        requires { 4 * i + 3 < length self.now.words.now }
-        ensures { result ≡ slot_at self.now.words.now i }
+    // The place of a pair's first slot among all.
+    fn first_slot(&self, pair: Pair) -> usize
+        requires { pair_ok self.now.ranks pair.from pair.to ≡ true }
+        ensures { result ≡ base self.now.ranks self.now.depth pair.from pair.to }
     {
-        read_slot(self.words, i)
+        (pair.from * self.ranks + pair.to) * self.depth
     }
 
-    // The place in the pair's box of the first slot that is wanted.
-    fn search(&self, from: usize, to: usize, wanted: Wanted) -> Option<usize>
-        requires { (MailboxSound self.now) × (pair_ok self.now.ranks from to ≡ true) }
-        ensures { Found (fits wanted) (box self.now.ranks self.now.depth self.now.words.now from to) result }
+    // Which of the words are a pair's row.
+    fn bounds(&self, pair: Pair) -> Range<usize>
+        requires { pair_ok self.now.ranks pair.from pair.to ≡ true }
+        ensures start { result.start ≡ 4 * base self.now.ranks self.now.depth pair.from pair.to }
+        ensures end { result.end ≡ 4 * (base self.now.ranks self.now.depth pair.from pair.to + self.now.depth) }
+        ensures inside { result.end ≤ length self.now.words.now }
     {
-        let base = base_of(self.ranks, self.depth, from, to);
-        find(self.words, base, self.depth, wanted)
+        let first = self.first_slot(pair);
+        SLOT_WORDS * first..SLOT_WORDS * (first + self.depth)
+    }
+
+    // A pair's row of slots.
+    fn row(&self, pair: Pair) -> &[[u32; SLOT_WORDS]]
+        requires { pair_ok self.now.ranks pair.from pair.to ≡ true }
+        ensures { map slot_of result.now ≡ box self.now.ranks self.now.depth self.now.words.now pair.from pair.to }
+    {
+        let (slots, _) = self.words[self.bounds(pair)].as_chunks();
+        slots
     }
 }
 
@@ -240,11 +291,9 @@ impl Transport for Mailbox<'_> {
 
     ghost most = { 2 };
 
-    ghost meaning = { mailbox_meaning };
+    ghost meaning = { λ m. mailbox_network m.ranks m.depth m.words.now };
 
-    ghost sound = { MailboxSound };
-
-    ghost shaped = { mailbox_shaped };
+    ghost shaped = { λ m. mailbox_shaped m.ranks m.depth m.used m.words.now m.sound };
 
     fn limit(&self) -> usize {
         Self::MESSAGE_LIMIT
@@ -266,67 +315,52 @@ impl Transport for Mailbox<'_> {
         self.used // in all boxes
     }
 
-    fn waiting_between(&self, from: usize, to: usize) -> Result<usize, Fault> {
-        if !is_pair(self.ranks, from, to) {
+    fn waiting_between(&self, pair: Pair) -> Result<usize, Fault> {
+        if !pair.is_among(self.ranks) {
             return Err(Fault::BadPair);
         }
-        match self.search(from, to, Wanted::Free) {
-            Some(k) => Ok(k),
-            None => Ok(self.depth),
-        }
+        Ok(first_free(self.row(pair)).unwrap_or(self.depth))
     }
 
-    fn send(&mut self, from: usize, to: usize, tag: u32, words: &[u32]) -> Result<(), Fault> {
-        if !is_pair(self.ranks, from, to) {
+    fn send(&mut self, pair: Pair, tag: u32, words: &[u32]) -> Result<(), Fault> {
+        if !pair.is_among(self.ranks) {
             return Err(Fault::BadPair);
         }
         if words.len() > Self::MESSAGE_LIMIT {
             return Err(Fault::TooLong);
         }
-        match self.search(from, to, Wanted::Free) {
-            None => Err(Fault::PairFull),
-            Some(k) => {
-                if self.used >= self.room() {
-                    return Err(Fault::NoRoom);
-                }
-                let at = base_of(self.ranks, self.depth, from, to) + k;
-                write_slot(self.words, at, slot_of(tag, words));
-                self.used += 1;
-                Ok(())
-            }
+        let Some(place) = first_free(self.row(pair)) else {
+            return Err(Fault::PairFull);
+        };
+        if self.used >= self.room() {
+            return Err(Fault::NoRoom);
         }
+        let row = self.bounds(pair);
+        let letter = Letter::new(tag, words);
+        write_slot(&mut self.words[row], place, Slot::UnderWay(letter));
+        self.used += 1;
+        Ok(())
     }
 
-    fn carry(&mut self, from: usize, to: usize) -> Result<bool, Fault> {
-        if !is_pair(self.ranks, from, to) {
+    fn carry(&mut self, pair: Pair) -> Result<bool, Fault> {
+        if !pair.is_among(self.ranks) {
             return Err(Fault::BadPair);
         }
         if self.used == 0 {
             return Ok(false);
         }
-        match self.search(from, to, Wanted::UnderWay) {
-            None => Ok(false),
-            Some(k) => {
-                let at = base_of(self.ranks, self.depth, from, to) + k;
-                let slot = self.slot(at);
-                let arrived = Slot {
-                    mark: slot.mark + 3,
-                    ..slot
-                };
-                write_slot(self.words, at, arrived);
-                Ok(true)
-            }
-        }
+        let Some(place) = first_under_way(self.row(pair)) else {
+            return Ok(false);
+        };
+        let bounds = self.bounds(pair);
+        let row = &mut self.words[bounds];
+        let slot = read_slot(row, place);
+        write_slot(row, place, slot.arrived());
+        Ok(true)
     }
 
-    fn take(
-        &mut self,
-        from: usize,
-        to: usize,
-        tag: u32,
-        buffer: &mut [u32],
-    ) -> Result<Option<usize>, Fault> {
-        if !is_pair(self.ranks, from, to) {
+    fn take(&mut self, pair: Pair, tag: u32, buffer: &mut [u32]) -> Result<Option<usize>, Fault> {
+        if !pair.is_among(self.ranks) {
             return Err(Fault::BadPair);
         }
         if buffer.len() < Self::MESSAGE_LIMIT {
@@ -335,16 +369,13 @@ impl Transport for Mailbox<'_> {
         if self.used == 0 {
             return Ok(None);
         }
-        match self.search(from, to, Wanted::Arrived(tag)) {
-            None => Ok(None),
-            Some(k) => {
-                let base = base_of(self.ranks, self.depth, from, to);
-                let slot = self.slot(base + k);
-                let length = deliver(slot, buffer);
-                let (depth, used) = (self.depth, self.used);
-                self.used = remove(self.words, used, base, depth, k);
-                Ok(Some(length))
-            }
-        }
+        let Some(place) = first_arrived(self.row(pair), tag) else {
+            return Ok(None);
+        };
+        let bounds = self.bounds(pair);
+        let row = &mut self.words[bounds];
+        let length = read_slot(row, place).deliver(buffer);
+        self.used = remove(row, place, self.used);
+        Ok(Some(length))
     }
 }

@@ -1,19 +1,61 @@
 -- What the layer answers, and what it stands for after each call.
-use Rattle.std.proofs.Common.{◌≡◌, ℕ, ◌+◌, ◌-◌, ◌/◌, ◌<◌, ◌≤◌, Bool, true, false, cond, eqb, List, ◌++◌, length, get_or, take, drop, is_some, Some, None, Ok, Option, Result, sym, refl, ap, ◌∙◌, subst, arith}
+use Rattle.std.proofs.Common.{◌≡◌, ℕ, ◌+◌, ◌-◌, ◌/◌, ◌<◌, ◌≤◌, Bool, true, false, cond, eqb, List, ◌++◌, length, get_or, take, drop, Some, None, Ok, Err, Option, Result, sym, refl, ap, ◌∙◌, ap₂, subst, arith}
 use Rattle.std.specs.List.{flat_map}
-use Rattle.std.proofs.lemmas.List.{get_or-take, take-take, drop-take}
-use Rattle.std.proofs.lemmas.Bool.{true≢false, false≢true}
+use Rattle.std.proofs.lemmas.List.{get_or-take, length-take, take-take, drop-take}
 use Rattle.ranks.specs.Ranks.{pair_ok}
+use Rattle.transport.specs.declared.Fault.{Fault}
 use Rattle.transport.specs.Network.{Network, Message, message, nobody, between, waiting, put, with_lists, sent, carried, some_moved, value, refused, done, none, without, oldest, between_reply, send_reply, after_send, carry_reply, after_carry, take_reply, after_take, taken_words, word_count, written, Short}
 use Rattle.transport.specs.Many.{sent_all, carried_all}
 use Rattle.transport.proofs.Replies.{between_good, send_long, send_full, send_crowded, send_done, after_done, take_found, after_take_found, taken_found, take_none, taken_none}
 use Rattle.transport.proofs.Pairs.{pair_positive}
 use Rattle.transport.proofs.Shapes.{layer_pair}
-use Rattle.segmented.specs.Segments.{pieces, block, cut, segments, decode, open_network, segmented, Whole}
-use Rattle.segmented.proofs.Coding.{pieces_some, unpacked_block}
+use Rattle.segmented.specs.Segments.{pieces, block, cut, segments, decode, open_network, segmented, BlockOf, Whole}
+use Rattle.segmented.proofs.Coding.{pieces_some, length-block, unpacked_block}
 use Rattle.segmented.proofs.Layer.{open_is, fits_below, between_is, waiting_is, between_div, sent_above, sent_whole, carried_above, carried_whole, carried_moves, taken_above, taken_whole}
 use Rattle.segmented.proofs.Steps.{refused_value}
 use Rattle.segmented.proofs.Takes.{oldest_all, all_without}
+
+-- what the taking of a block's segments tells
+differ : {A : Type 0} (x : List ℕ) → ◌≡◌ {A = Result (Option (List ℕ)) Fault} (Ok None) (Ok (Some x)) → A
+differ x e = let z : ◌≡◌ {A = ℕ} 0 1 = cc in absurd (omega arith)
+
+pub block_none : (o : Option Message) → BlockOf o (Ok None) → o ≡ None
+block_none None h = refl
+block_none (Some m) h = differ h.0 h.1
+
+pub block_refused : {A : Type 0} (o : Option Message) (f : Fault) → BlockOf o (Err f) → A
+block_refused None f e = let z : ◌≡◌ {A = ℕ} 0 1 = cc in absurd (omega arith)
+block_refused (Some m) f h = err h.0 h.1
+  where
+    err : {A : Type 0} (x : List ℕ) → ◌≡◌ {A = Result (Option (List ℕ)) Fault} (Err f) (Ok (Some x)) → A
+    err x e = let z : ◌≡◌ {A = ℕ} 0 1 = cc in absurd (omega arith)
+
+pub block_some : (o : Option Message) (held : List ℕ) → BlockOf o (Ok (Some held)) → (m : Message) × (o ≡ Some m) × (take 8 held ≡ block m.words)
+block_some None held h = differ held (sym h)
+block_some (Some m) held h = (m, refl, ap (take 8) (same held h.0 h.1) ∙ h.2)
+  where
+    same : (x y : List ℕ) → ◌≡◌ {A = Result (Option (List ℕ)) Fault} (Ok (Some x)) (Ok (Some y)) → x ≡ y
+    same x y e = cc
+
+first : (ws : List ℕ) → get_or (block ws) 0 0 ≡ length ws
+unfolding block
+first ws = refl
+
+-- a block read back
+module _ (held ws : List ℕ) (long : 8 ≤ length held) (short : length ws ≤ 7) (is : take 8 held ≡ block ws) where
+  pub held_length : get_or held 0 0 ≡ length ws
+  unfolding block
+  held_length = sym (get_or-take 8 held 0 0 (omega arith)) ∙ ap (λ l. get_or l 0 0) is
+
+  pub held_words : take (get_or held 0 0) (drop 1 held) ≡ ws
+  held_words =
+      ap (λ k. take k (drop 1 held)) held_length
+      ∙ sym (take-take (length ws) 7 (drop 1 held) short)
+      ∙ ap (take (length ws)) (sym (drop-take 1 7 held) ∙ ap (drop 1) is)
+      ∙ front
+    where
+      front : take (length ws) (drop 1 (block ws)) ≡ ws
+      front = ap (λ k. take k (drop 1 (block ws))) (sym (first ws)) ∙ unpacked_block ws
 
 module _ (lim p : ℕ) (n : Network) where
   pub limit_is : (segmented lim p n).limit ≡ 7
@@ -137,20 +179,39 @@ module _ (lim p : ℕ) (n : Network) (w : Whole lim p n) (a b : ℕ) (pair : pai
     short_arrived : Short 7 (decode (pieces lim) (n.arrived a b))
     short_arrived = (w.arrived h a b).short
 
-    pub layer_absent : found ≡ None → none ≡ take_reply net a b t (length buffer)
-    layer_absent o = sym (take_none net a b t buffer pair_here limit_fits (oldest_is ∙ o))
+    pub layer_refused : {A : Type 0} (f : Fault) → BlockOf found (Err f) → A
+    layer_refused f h = block_refused found f h
 
-    pub layer_unwritten : found ≡ None → buffer ≡ taken_words net a b t buffer
-    layer_unwritten o = sym (taken_none net a b t buffer pair_here limit_fits (oldest_is ∙ o))
+    module _ (h : BlockOf found (Ok None)) where
+      pub layer_absent : none ≡ take_reply net a b t (length buffer)
+      layer_absent = sym (take_none net a b t buffer pair_here limit_fits (oldest_is ∙ block_none found h))
 
-    pub layer_count : (m : Message) → found ≡ Some m → value (length m.words) ≡ take_reply net a b t (length buffer)
-    layer_count m o = sym (take_found net a b t buffer pair_here limit_fits ∙ ap word_count (oldest_is ∙ o))
+      pub layer_unwritten : buffer ≡ taken_words net a b t buffer
+      layer_unwritten = sym (taken_none net a b t buffer pair_here limit_fits (oldest_is ∙ block_none found h))
 
-    pub layer_words : (m : Message) → found ≡ Some m → m.words ++ drop (length m.words) buffer ≡ taken_words net a b t buffer
-    layer_words m o = sym (taken_found net a b t buffer pair_here limit_fits ∙ ap (λ x. written x buffer) (oldest_is ∙ o))
+    module _ (held : List ℕ) (h : BlockOf found (Ok (Some held))) where
+      it : (m : Message) × (found ≡ Some m) × (take 8 held ≡ block m.words)
+      it = block_some found held h
 
-    pub layer_short : (m : Message) → found ≡ Some m → length m.words ≤ 7
-    layer_short m o = oldest_all (λ x. length x.words ≤ 7) t (decode (pieces lim) (n.arrived a b)) m short_arrived o
+      short : length it.0.words ≤ 7
+      short = oldest_all (λ x. length x.words ≤ 7) t (decode (pieces lim) (n.arrived a b)) it.0 short_arrived it.1
+
+      pub layer_wide : 8 ≤ length held
+      layer_wide = omega (arith, length-take 8 held, ap length it.2, length-block it.0.words short)
+
+      count : get_or held 0 0 ≡ length it.0.words
+      count = held_length held it.0.words layer_wide short it.2
+
+      pub layer_few : get_or held 0 0 ≤ 7
+      layer_few = omega (arith, count, short)
+
+      pub layer_count : (k : ℕ) → k ≡ get_or held 0 0 → value k ≡ take_reply net a b t (length buffer)
+      layer_count k e = ap value (e ∙ count) ∙ sym (take_found net a b t buffer pair_here limit_fits ∙ ap word_count (oldest_is ∙ it.1))
+
+      pub layer_words : (words : List ℕ) → words ≡ take (get_or held 0 0) (drop 1 held) ++ drop (get_or held 0 0) buffer → words ≡ taken_words net a b t buffer
+      layer_words words e =
+          e ∙ ap₂ (λ x y. x ++ drop y buffer) (held_words held it.0.words layer_wide short it.2) count
+          ∙ sym (taken_found net a b t buffer pair_here limit_fits ∙ ap (λ x. written x buffer) (oldest_is ∙ it.1))
 
     module _ (after : Network) (after_is : after ≡ with_lists n n.under (put n.arrived a b (flat_map (segments lim) (without t (decode (pieces lim) (n.arrived a b)))))) where
       left : Short 7 (without t (decode (pieces lim) (n.arrived a b)))
@@ -166,34 +227,3 @@ module _ (lim p : ℕ) (n : Network) (w : Whole lim p n) (a b : ℕ) (pair : pai
 
       pub layer_taken_whole : Whole lim p after
       layer_taken_whole = subst (Whole lim p) (sym after_is) (taken_whole lim p n w h a b (without t (decode (pieces lim) (n.arrived a b))) left)
-
-pub ok_same : {E : Type 0} (x y : Bool) → ◌≡◌ {A = Result Bool E} (Ok x) (Ok y) → x ≡ y
-ok_same x y e = cc
-
-pub found_some : (o : Option Message) → is_some o ≡ true → (m : Message) × (o ≡ Some m)
-found_some None e = absurd (false≢true e)
-found_some (Some m) e = (m, refl)
-
-pub found_none : (o : Option Message) → is_some o ≡ false → o ≡ None
-found_none None e = refl
-found_none (Some m) e = absurd (true≢false e)
-
-first : (ws : List ℕ) → get_or (block ws) 0 0 ≡ length ws
-unfolding block
-first ws = refl
-
--- a block read back
-module _ (held ws : List ℕ) (long : 8 ≤ length held) (short : length ws ≤ 7) (is : take 8 held ≡ block ws) where
-  pub held_length : get_or held 0 0 ≡ length ws
-  unfolding block
-  held_length = sym (get_or-take 8 held 0 0 (omega arith)) ∙ ap (λ l. get_or l 0 0) is
-
-  pub held_words : take (get_or held 0 0) (drop 1 held) ≡ ws
-  held_words =
-      ap (λ k. take k (drop 1 held)) held_length
-      ∙ sym (take-take (length ws) 7 (drop 1 held) short)
-      ∙ ap (take (length ws)) (sym (drop-take 1 7 held) ∙ ap (drop 1) is)
-      ∙ front
-    where
-      front : take (length ws) (drop 1 (block ws)) ≡ ws
-      front = ap (λ k. take k (drop 1 (block ws))) (sym (first ws)) ∙ unpacked_block ws

@@ -5,13 +5,13 @@ use native.Mathlib.Nat.{mul-div_right, zero-div}
 use Rattle.std.specs.List.{flat_map}
 use Rattle.std.proofs.lemmas.List.{append-nil, append_assoc, take_at, drop_at, length-append, length-drop}
 use Rattle.std.proofs.ByRecursion.{All-push}
-use Rattle.std.proofs.lemmas.Bool.{cases_Bool, cases_eq, and_parts, ltb-true, leb-true, eqb-true}
+use Rattle.std.proofs.lemmas.Bool.{cases_Bool, cases_eq, and_parts, ltb-true, leb-true, eqb-true, eq-eqb, ne_eqb}
 use Rattle.transport.specs.Network.{Network, Message, between, waiting, put, with_lists, sent, carried, some_moved, value, Short, Shaped}
 use Rattle.transport.specs.Many.{sent_all, carried_all}
 use Rattle.ranks.specs.Ranks.{sum_below}
 use Rattle.ranks.proofs.Sums.{sum_same, sum-mul}
 use Rattle.transport.proofs.Tables.{put_is, put_here, put_other, put_same}
-use Rattle.transport.proofs.Shapes.{layer_open}
+use Rattle.transport.proofs.Shapes.{layer_closed, layer_open}
 use Rattle.transport.proofs.Many.{nothing_waits}
 use Rattle.segmented.specs.Segments.{pieces, segments, decode, open_network, segmented, usable, new_segmented, Coded, Whole}
 use Rattle.segmented.proofs.Coding.{pieces_some, length-segments, decode_joined, coded, length-coded}
@@ -178,6 +178,24 @@ module _ (lim p : ℕ) (n : Network) (w : Whole lim p n) (h : 0 < p) where
       under = w.under;
       arrived = λ _. coded_put n.arrived a b (flat_map (segments lim) ms) rest_coded (w.arrived h);
     }
+
+-- how many messages some segments are
+pub count_open : (p k : ℕ) → 0 < p → cond (eqb p 0) 0 k ≡ k
+count_open p k h = rw (ne_eqb p 0 (λ z. omega arith))
+
+module _ (lim p : ℕ) (n : Network) (w : Whole lim p n) where
+  waiting_closed : p ≡ 0 → 0 ≡ waiting (segmented lim p n)
+  unfolding waiting
+  waiting_closed z = ap waiting (sym (layer_closed 7 p (open_network (pieces lim) p n) z))
+
+  pub waiting_above : cond (eqb p 0) 0 (waiting n / pieces lim) ≡ waiting (segmented lim p n)
+  waiting_above = by (cases_eq p 0)
+    where
+      by : (p ≡ 0) ⊎ (p ≡ 0 → ⊥) → cond (eqb p 0) 0 (waiting n / pieces lim) ≡ waiting (segmented lim p n)
+      by (inl z) = ap (λ t. cond t 0 (waiting n / pieces lim)) (eq-eqb p 0 z) ∙ waiting_closed z
+      by (inr ne) =
+          let h : 0 < p = omega arith in
+          count_open p (waiting n / pieces lim) h ∙ waiting_div lim p n w h ∙ ap waiting (sym (open_is lim p n h))
 
 -- a new layer
 module _ (lim : ℕ) (n : Network) (shape : Shaped lim n) where

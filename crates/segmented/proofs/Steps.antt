@@ -1,13 +1,13 @@
 -- One segment after the other.
-use Rattle.std.proofs.Common.{◌≡◌, ℕ, ◌+◌, ◌-◌, ◌*◌, ◌<◌, ◌≤◌, min, true, List, [], ◌∷◌, ◌++◌, length, take, drop, sym, ap, ◌∙◌, subst, arith}
+use Rattle.std.proofs.Common.{◌≡◌, ℕ, ◌+◌, ◌-◌, ◌*◌, ◌<◌, ◌≤◌, min, true, List, [], ◌∷◌, ◌++◌, length, take, drop, sym, ap, ◌∙◌, add-mul, one-mul, arith}
 use Rattle.ranks.specs.Ranks.{pair_ok}
 use Rattle.transport.specs.Network.{Network, Message, message, refused, done, value, between, waiting, send_reply, after_send, some_moved}
 use Rattle.transport.specs.Many.{sent_all}
 use Rattle.transport.proofs.Replies.{send_done, after_done}
 use Rattle.transport.proofs.Many.{sent_one, sent_between, sent_waiting}
-use Rattle.std.proofs.lemmas.List.{length-take}
+use Rattle.std.proofs.lemmas.List.{length-drop, drop-drop}
 use Rattle.segmented.specs.Segments.{pieces, cut}
-use Rattle.segmented.proofs.Arith.{piece_is}
+use Rattle.segmented.proofs.Arith.{count_more, count_all, front_is}
 use Rattle.segmented.proofs.Coding.{cut_more, length_cut}
 
 pub refused_done : {A : Type 0} (f : ℕ) → refused f ≡ done → A
@@ -20,40 +20,50 @@ pub refused_moved : {A : Type 0} (f : ℕ) (ms : List Message) → refused f ≡
 refused_moved f [] e = refused_value f 0 e
 refused_moved f (m ∷ ms) e = refused_value f 1 e
 
-module _ (n : Network) (a b lim t k all : ℕ) (ws : List ℕ) (pair : pair_ok n.ranks a b ≡ true) (limited : n.limit ≡ lim)
-    (depth : between n a b + all ≤ n.depth) (room : waiting n + all ≤ n.room) (more : k < all)
-    (piece : List ℕ) (is : piece ≡ take lim (drop (k * lim) ws)) (short : length piece ≤ lim)
+-- what the loop over the segments of a block keeps: the first k are sent, and the rest of the block is left to cut
+abbrev pub Sends : (n : Network) (a b lim t : ℕ) (ws : List ℕ) → ℕ → Network → List ℕ → ℕ → Type 0
+Sends n a b lim t ws k now rest size =
+    (now ≡ sent_all n a b (cut k lim t ws)) × (rest ≡ drop (k * lim) ws) × (size ≡ lim) × (k * lim < 8 + lim)
+
+module _ (n : Network) (a b lim t : ℕ) (ws : List ℕ) (pair : pair_ok n.ranks a b ≡ true) (limited : n.limit ≡ lim) (some : 0 < lim) (full : length ws ≡ 8)
+    (depth : between n a b + pieces lim ≤ n.depth) (room : waiting n + pieces lim ≤ n.room)
+    (k : ℕ) (now : Network) (rest : List ℕ) (size : ℕ) (keeps : Sends n a b lim t ws k now rest size)
   where
-    pub send_ready : send_reply (sent_all n a b (cut k lim t ws)) a b piece ≡ done
-    send_ready =
-        send_done (sent_all n a b (cut k lim t ws)) a b piece pair (omega arith)
-        (omega (arith, sent_between n a b (cut k lim t ws), length_cut lim t k ws))
-        (omega (arith, sent_waiting n a b (cut k lim t ws) pair, length_cut lim t k ws))
+    left : length rest ≡ 8 - k * lim
+    left = ap length keeps.1 ∙ length-drop (k * lim) ws ∙ ap (λ l. l - k * lim) full
 
-    pub send_step : after_send (sent_all n a b (cut k lim t ws)) a b (message t piece) ≡ sent_all n a b (cut (k + 1) lim t ws)
-    send_step =
-        after_done (sent_all n a b (cut k lim t ws)) a b (message t piece) send_ready
-        ∙ sent_one n a b (cut k lim t ws) (message t piece)
-        ∙ ap (sent_all n a b) (ap (λ p. cut k lim t ws ++ (message t p ∷ [])) is ∙ sym (cut_more lim t k ws))
+    module _ (piece more : List ℕ) (is : rest ≡ piece ++ more) (long : length piece ≡ min size (length rest)) (any : 0 < length rest) where
+      front : (piece ≡ take lim rest) × (more ≡ drop lim rest)
+      front = front_is lim rest piece more is (long ∙ ap (λ l. min l (length rest)) keeps.2)
 
--- the same from what the loop knows: `limit` and `count` are what the calls answered
-module _ (n : Network) (a b lim t k : ℕ) (ws : List ℕ) (pair : pair_ok n.ranks a b ≡ true) (limited : n.limit ≡ lim)
-    (depth : between n a b + pieces lim ≤ n.depth) (room : waiting n + pieces lim ≤ n.room) (full : length ws ≡ 8)
-    (limit count start end : ℕ) (limit_is : limit ≡ lim) (count_is : count ≡ pieces limit) (more : k < count)
-    (start_is : start ≡ min (k * limit) 8) (end_is : end ≡ min (start + limit) 8)
-  where
-    in_count : k < pieces lim
-    in_count = subst (λ (x : ℕ). k < pieces x) limit_is (omega arith)
+      here : piece ≡ take lim (drop (k * lim) ws)
+      here = front.0 ∙ ap (take lim) keeps.1
 
-    piece_words : take (end - start) (drop start ws) ≡ take lim (drop (k * lim) ws)
-    piece_words =
-        piece_is ws k lim start end full (start_is ∙ ap (λ x. min (k * x) 8) limit_is) (end_is ∙ ap (λ x. min (start + x) 8) limit_is)
+      ready : send_reply (sent_all n a b (cut k lim t ws)) a b piece ≡ done
+      ready =
+          let less = count_more lim k some (omega (arith, left)) in
+          let short : length piece ≤ lim = omega (arith, long, keeps.2) in
+          send_done (sent_all n a b (cut k lim t ws)) a b piece pair (omega arith)
+          (omega (arith, sent_between n a b (cut k lim t ws), length_cut lim t k ws))
+          (omega (arith, sent_waiting n a b (cut k lim t ws) pair, length_cut lim t k ws))
 
-    piece_short : length (take (end - start) (drop start ws)) ≤ lim
-    piece_short = simp length-take (omega arith)
+      pub sends_ready : send_reply now a b piece ≡ done
+      sends_ready = ap (λ m. send_reply m a b piece) keeps.0 ∙ ready
 
-    pub segment_ready : send_reply (sent_all n a b (cut k lim t ws)) a b (take (end - start) (drop start ws)) ≡ done
-    segment_ready = send_ready n a b lim t k (pieces lim) ws pair limited depth room in_count (take (end - start) (drop start ws)) piece_words piece_short
+      pub sends_more : (after : Network) (size' : ℕ) → after ≡ after_send now a b (message t piece) → size' ≡ size → Sends n a b lim t ws (k + 1) after more size'
+      sends_more after size' e same = (
+        e
+            ∙ ap (λ m. after_send m a b (message t piece)) keeps.0
+            ∙ after_done (sent_all n a b (cut k lim t ws)) a b (message t piece) ready
+            ∙ sent_one n a b (cut k lim t ws) (message t piece)
+            ∙ ap (sent_all n a b) (ap (λ p. cut k lim t ws ++ (message t p ∷ [])) here ∙ sym (cut_more lim t k ws)),
+        front.1 ∙ ap (drop lim) keeps.1 ∙ drop-drop lim (k * lim) ws ∙ ap (λ j. drop j ws) (turn (add-mul k 1 lim) (one-mul lim)),
+        same ∙ keeps.2,
+        omega (arith, left, add-mul k 1 lim, one-mul lim),
+      )
+        where
+          turn : (k + 1) * lim ≡ k * lim + 1 * lim → 1 * lim ≡ lim → k * lim + lim ≡ (k + 1) * lim
+          turn e f = omega arith
 
-    pub segment_step : after_send (sent_all n a b (cut k lim t ws)) a b (message t (take (end - start) (drop start ws))) ≡ sent_all n a b (cut (k + 1) lim t ws)
-    segment_step = send_step n a b lim t k (pieces lim) ws pair limited depth room in_count (take (end - start) (drop start ws)) piece_words piece_short
+    pub sends_all : length rest ≡ 0 → now ≡ sent_all n a b (cut (pieces lim) lim t ws)
+    sends_all none = keeps.0 ∙ ap (λ j. sent_all n a b (cut j lim t ws)) (count_all lim k some (omega (arith, left)) keeps.3)

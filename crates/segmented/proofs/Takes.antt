@@ -1,17 +1,18 @@
 -- The segments of the oldest message with a tag are taken one after the other.
 use Rattle.std.proofs.Common.{◌≡◌, ℕ, zero, suc, ◌+◌, ◌-◌, ◌*◌, ◌<◌, ◌≤◌, min, Bool, true, false, cond, eqb, ◌⊎◌, List, [], ◌∷◌, ◌++◌, length, take, drop, is_some, Some, None, Option, sym, refl, ap, ◌∙◌, subst, inl, inr, suc-mul, add-mul, one-mul, zero-mul, arith, take-add}
 use Rattle.std.specs.List.{flat_map, AllByRecursion}
-use Rattle.std.proofs.lemmas.List.{drop-drop, append_assoc, drop_all, length-take, length-drop, take_at}
+use Rattle.std.proofs.lemmas.List.{drop-drop, append_assoc, drop_all, length-take, length-drop, take_at, take_all}
 use Rattle.std.proofs.ByRecursion.{All-weaker}
-use Rattle.std.proofs.lemmas.Bool.{cases_Bool, eq-eqb, eqb-true, true≢false}
+use Rattle.std.proofs.lemmas.Bool.{cases_Bool, eq-eqb, eqb-true, true≢false, false≢true}
 use Rattle.ranks.specs.Ranks.{pair_ok}
 use Rattle.transport.specs.Network.{Network, Message, message, oldest, without, none, value, refused, word_count, written, take_reply, after_take, taken_words, with_lists, put}
 use Rattle.transport.specs.Many.{without_n, taken_all}
-use Rattle.transport.proofs.Many.{taken_one}
+use Rattle.transport.proofs.Many.{taken_none, taken_one}
 use Rattle.transport.proofs.Tables.{put_here}
 use Rattle.transport.proofs.Replies.{without_absent, take_found, taken_found}
 use Rattle.segmented.specs.Segments.{pieces, block, cut, segments, decode, Coded}
-use Rattle.segmented.proofs.Coding.{length-segments, tags_segments, length-block}
+use Rattle.segmented.proofs.Arith.{count_more, count_all}
+use Rattle.segmented.proofs.Coding.{pieces_some, length-segments, tags_segments, length-block}
 
 -- what has other tags is passed over
 module _ (t : ℕ) where
@@ -144,6 +145,14 @@ all_without P t (x ∷ ms) h = by (eqb x.tag t) (all_without P t ms h.1)
     by true rest = h.1
     by false rest = (h.0, rest)
 
+pub none_of : {A : Type 0} (o : Option A) → is_some o ≡ false → o ≡ None
+none_of None e = refl
+none_of (Some x) e = absurd (true≢false e)
+
+pub some_of : {A : Type 0} (o : Option A) → is_some o ≡ true → (x : A) × (o ≡ Some x)
+some_of None e = absurd (false≢true e)
+some_of (Some x) e = (x, refl)
+
 -- what an answer tells of the message found
 pub count_none : (o : Option Message) → none ≡ word_count o → o ≡ None
 count_none None e = refl
@@ -221,45 +230,100 @@ block_next words held part rest post k lim start full s e p =
     ∙ take_at (take start held ++ take lim (drop (k * lim) words)) (rest ++ post) (min (k * lim + lim) 8) long
     ∙ so_far ∙ ap (λ x. take x words) (sym q)
 
--- one turn of the loop: `limit` and `count` are what the calls answered, `now` the network below
-module _ (n now : Network) (a b t k lim : ℕ) (pair : pair_ok n.ranks a b ≡ true) (limited : n.limit ≡ lim) (low : lim ≤ 8) (some : 0 < lim)
-    (coded : Coded lim (n.arrived a b)) (limit count start : ℕ) (limit_is : limit ≡ lim) (count_is : count ≡ pieces limit) (more : k < count)
-    (start_is : start ≡ min (k * limit) 8) (held : List ℕ) (wide : length held ≡ 16) (now_is : now ≡ taken_all n a b t k)
+-- what the loop over the places of a block's segments keeps: the first k are taken, and lie at the front of the block
+abbrev pub Takes : (n : Network) (a b t lim : ℕ) → (start : ℕ) (now : Network) (held : List ℕ) → Type 0
+Takes n a b t lim start now held =
+    (k : ℕ) × (start ≡ k * lim) × (k * lim < 8 + lim) × (now ≡ taken_all n a b t k)
+    × ((m : Message) → oldest t (decode (pieces lim) (n.arrived a b)) ≡ Some m → take (min (k * lim) 8) held ≡ take (k * lim) (block m.words))
+    × (0 < k → is_some (oldest t (decode (pieces lim) (n.arrived a b))) ≡ true)
+
+pub takes_begin : (n : Network) (a b t lim : ℕ) (held : List ℕ) → Takes n a b t lim 0 n held
+takes_begin n a b t lim held =
+    let none : 0 * lim ≡ 0 = zero-mul lim in (
+      0,
+      sym none,
+      omega (arith, none),
+      sym (taken_none n a b t),
+      (λ m f. ap (λ k. take k held) (ap (λ k. min k 8) none) ∙ sym (ap (λ k. take k (block m.words)) none)),
+      (λ h. absurd (no_less h)),
+    )
   where
-    abbrev pub part : List ℕ
-    part = take (16 - start) (drop start held)
+    no_less : ◌<◌ 0 0 → ⊥
+    no_less h = omega arith
+
+module _ (n : Network) (a b t lim : ℕ) (pair : pair_ok n.ranks a b ≡ true) (limited : n.limit ≡ lim) (low : lim ≤ 8) (some : 0 < lim)
+    (coded : Coded lim (n.arrived a b)) (start : ℕ) (now : Network) (held : List ℕ) (wide : length held ≡ 16) (keeps : Takes n a b t lim start now held)
+  where
+    abbrev k : ℕ
+    k = keeps.0
 
     abbrev found : Option Message
     found = oldest t (decode (pieces lim) (n.arrived a b))
 
-    in_count : k < pieces lim
-    in_count = subst (λ (x : ℕ). k < pieces x) limit_is (omega arith)
+    -- one turn
+    module _ (more : start < 8) where
+      abbrev pub part : List ℕ
+      part = take (16 - start) (drop start held)
 
-    starts : start ≡ min (k * lim) 8
-    starts = start_is ∙ ap (λ x. min (k * x) 8) limit_is
+      in_count : k < pieces lim
+      in_count = count_more lim k some (omega (arith, keeps.1))
 
-    part_wide : n.limit ≤ length part
-    part_wide = simp (length-take, length-drop) (omega arith)
+      starts : start ≡ min (k * lim) 8
+      starts = omega (arith, keeps.1)
 
-    pub turn_reply : take_reply now a b t (length part) ≡ word_count (oldest t (without_n t k (n.arrived a b)))
-    turn_reply = ap (λ m. take_reply m a b t (length part)) now_is ∙ reply_at n a b t k pair part part_wide
+      part_wide : n.limit ≤ length part
+      part_wide = simp (length-take, length-drop) (omega arith)
 
-    pub turn_after : after_take now a b t (length part) ≡ taken_all n a b t (k + 1)
-    turn_after = ap (λ m. after_take m a b t (length part)) now_is ∙ taken_one n a b t k part pair part_wide
+      reply : take_reply now a b t (length part) ≡ word_count (oldest t (without_n t k (n.arrived a b)))
+      reply = ap (λ m. take_reply m a b t (length part)) keeps.3 ∙ reply_at n a b t k pair part part_wide
 
-    pub turn_none : none ≡ take_reply now a b t (length part) → found ≡ None
-    turn_none e = none_at lim t some (n.arrived a b) coded k in_count (count_none (oldest t (without_n t k (n.arrived a b))) (e ∙ turn_reply))
+      pub takes_ready : {A : Type 0} (f : ℕ) → refused f ≡ take_reply now a b t (length part) → A
+      takes_ready f e = count_refused (oldest t (without_n t k (n.arrived a b))) f (e ∙ reply)
 
-    pub turn_some : (j : ℕ) → value j ≡ take_reply now a b t (length part) → is_some found ≡ true
-    turn_some j e = some_at lim t some (n.arrived a b) coded k j (e ∙ turn_reply)
+      module _ (after : Network) (after_is : after ≡ after_take now a b t (length part)) where
+        next : after ≡ taken_all n a b t (k + 1)
+        next = after_is ∙ ap (λ m. after_take m a b t (length part)) keeps.3 ∙ taken_one n a b t k part pair part_wide
 
-    pub turn_gone : found ≡ None → taken_all n a b t (k + 1) ≡ with_lists n n.under (put n.arrived a b (flat_map (segments lim) (without t (decode (pieces lim) (n.arrived a b)))))
-    turn_gone e = ap (λ l. with_lists n n.under (put n.arrived a b l)) (left_none lim t some (n.arrived a b) coded (k + 1) e)
+        pub takes_none : none ≡ take_reply now a b t (length part)
+            → (found ≡ None) × (after ≡ with_lists n n.under (put n.arrived a b (flat_map (segments lim) (without t (decode (pieces lim) (n.arrived a b))))))
+        takes_none e =
+            let absent = none_at lim t some (n.arrived a b) coded k in_count (count_none (oldest t (without_n t k (n.arrived a b))) (e ∙ reply)) in
+            (absent, next ∙ ap (λ l. with_lists n n.under (put n.arrived a b l)) (left_none lim t some (n.arrived a b) coded (k + 1) absent))
 
-    pub turn_words : (m : Message) (last post : List ℕ) → found ≡ Some m → take (min (k * lim) 8) held ≡ take (k * lim) (block m.words) → last ≡ taken_words now a b t part
-        → take (min ((k + 1) * lim) 8) (take start held ++ (last ++ post)) ≡ take ((k + 1) * lim) (block m.words)
-    turn_words m last post e so_far is =
-        block_next (block m.words) held last _ post k lim start (length-block m.words (short_found lim t some (n.arrived a b) coded m e)) starts
-        (ap (λ x. take x held) starts ∙ so_far)
-        (is ∙ ap (λ x. taken_words x a b t part) now_is ∙ words_at n a b t k pair part part_wide
-        ∙ ap (λ o. written o part) (found_at lim t some (n.arrived a b) coded m k e in_count))
+        pub takes_more : (j : ℕ) (last post : List ℕ) (start' : ℕ) → value j ≡ take_reply now a b t (length part) → last ≡ taken_words now a b t part → start' ≡ start + lim
+            → Takes n a b t lim start' after (take start held ++ (last ++ post))
+        takes_more j last post start' e is on = (
+          k + 1,
+          omega (arith, on, keeps.1, add-mul k 1 lim, one-mul lim),
+          omega (arith, keeps.1, add-mul k 1 lim, one-mul lim),
+          next,
+          (λ m f.
+              block_next (block m.words) held last _ post k lim start (length-block m.words (short_found lim t some (n.arrived a b) coded m f)) starts
+              (ap (λ x. take x held) starts ∙ keeps.4 m f)
+              (is ∙ ap (λ x. taken_words x a b t part) keeps.3 ∙ words_at n a b t k pair part part_wide
+              ∙ ap (λ o. written o part) (found_at lim t some (n.arrived a b) coded m k f in_count))),
+          (λ _. some_at lim t some (n.arrived a b) coded k j (e ∙ reply)),
+        )
+
+    -- the end
+    module _ (end : 8 ≤ start) where
+      all : k ≡ pieces lim
+      all = count_all lim k some (omega (arith, keeps.1)) keeps.2
+
+      there : is_some found ≡ true
+      there = keeps.5 (omega (arith, pieces_some lim some, all))
+
+      pub takes_all : (m : Message) × (found ≡ Some m) × (take 8 held ≡ block m.words)
+      takes_all =
+          let f = some_of found there in
+          let enough : min (k * lim) 8 ≡ 8 = omega (arith, keeps.1) in (
+            f.0,
+            f.1,
+            ap (λ x. take x held) (sym enough) ∙ keeps.4 f.0 f.1
+                ∙ take_all (k * lim) (block f.0.words) (omega (arith, keeps.1, length-block f.0.words (short_found lim t some (n.arrived a b) coded f.0 f.1))),
+          )
+
+      pub takes_rest : now ≡ with_lists n n.under (put n.arrived a b (flat_map (segments lim) (without t (decode (pieces lim) (n.arrived a b)))))
+      takes_rest =
+          keeps.3 ∙ ap (λ j. taken_all n a b t j) all
+          ∙ ap (λ l. with_lists n n.under (put n.arrived a b l)) (left_some lim t some (n.arrived a b) coded there)

@@ -1,6 +1,7 @@
 -- A message as segments of the transport below, and the network that the segments stand for.
-use Rattle.std.specs.Prelude.{◌≡◌, ℕ, zero, suc, ◌+◌, ◌-◌, ◌/◌, ◌<◌, Bool, cond, ◌&&◌, List, [], ◌∷◌, ◌++◌, length, take, drop, replicate, ◌==◌, nat_le, nat_lt, slice_index}
+use Rattle.std.specs.Prelude.{◌≡◌, ℕ, zero, suc, ◌+◌, ◌-◌, ◌/◌, ◌<◌, Bool, cond, ◌&&◌, List, [], ◌∷◌, ◌++◌, length, take, drop, replicate, Some, None, Ok, Option, Result, ◌==◌, nat_le, nat_lt, slice_index}
 use Rattle.std.specs.List.{flat_map}
+use Rattle.transport.specs.declared.Fault.{Fault}
 use Rattle.transport.specs.Network.{Network, Message, message, quiet, nobody, when_ranks, waiting, Short}
 
 -- how many segments a message has over a transport of that limit: 8 divided by it, rounded up
@@ -74,6 +75,11 @@ new_segmented lim n =
 pub record Coded (lim : ℕ) (below : List Message) : Type 0 where
   pub short : Short 7 (decode (pieces lim) below)
   pub is : below ≡ flat_map (segments lim) (decode (pieces lim) below)
+
+-- nothing was taken where there is no message, and otherwise words that begin with the message's block
+abbrev pub BlockOf : Option Message → Result (Option (List ℕ)) Fault → Type 0
+BlockOf None r = r ≡ Ok None
+BlockOf (Some m) r = (words : List ℕ) × (r ≡ Ok (Some words)) × (take 8 words ≡ block m.words)
 
 -- the layer has no ranks, or those below
 pub record Whole (lim p : ℕ) (n : Network) : Type 0 where

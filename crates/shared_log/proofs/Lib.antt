@@ -1,3 +1,3 @@
 pub mod Calls
-pub mod Gaps
+pub mod Places
 pub mod Rows

@@ -7,13 +7,14 @@ use Rattle.transport.specs.Stored.{listed}
 use Rattle.transport.specs.declared.Fault.{Fault}
 use Rattle.transport.specs.declared.Fault.TheVariants.{PairFull, NoRoom}
 use Rattle.shared_log.specs.declared.Record.{Record}
-use Rattle.shared_log.specs.declared.Wanted.{Wanted}
-use Rattle.shared_log.specs.declared.Wanted.TheVariants.{UnderWay, Arrived}
-use Rattle.shared_log.specs.declared.Log.{Log}
 
 -- the most records that a log uses
 abbrev pub most_records : ℕ
 most_records = 1536
+
+-- the most words of a message
+abbrev pub most_words : ℕ
+most_words = 4
 
 -- a record of a message from a to b
 abbrev pub of_pair : (a b : ℕ) → Record → Bool
@@ -31,11 +32,6 @@ is_arrived a b r = of_pair a b r && r.arrived
 abbrev pub is_tagged : (a b t : ℕ) → Record → Bool
 is_tagged a b t r = is_arrived a b r && r.tag == t
 
--- it is what is looked for
-abbrev pub fits : (a b : ℕ) → Wanted → Record → Bool
-fits a b UnderWay r = is_under a b r
-fits a b (Arrived t) r = is_tagged a b t r
-
 -- the message that a record holds
 abbrev pub message_of : Record → Message
 message_of r = message r.tag (take r.length r.words)
@@ -51,13 +47,13 @@ log_arrived rs a b = listed message_of (is_arrived a b) rs
 -- the network of p ranks and so much room that the records in use stand for
 abbrev pub log_network : (p room : ℕ) → List Record → Network
 log_network p room rs =
-    record { ranks = p; depth = room; room = room; limit = 4; under = log_under rs; arrived = log_arrived rs }
+    record { ranks = p; depth = room; room = room; limit = most_words; under = log_under rs; arrived = log_arrived rs }
 
 -- a record that a send wrote
 pub record Good (p : ℕ) (r : Record) : Type 0 where
   pub pair : pair_ok p r.from r.to ≡ true
-  pub brief : r.length ≤ 4
-  pub four : length r.words ≡ 4
+  pub brief : r.length ≤ most_words
+  pub four : length r.words ≡ most_words
 
 -- of one pair's messages those that have arrived come first
 abbrev pub Ordered : List Record → Type 0
@@ -78,21 +74,13 @@ pub record SoundLog (p room used : ℕ) (rs : List Record) : Type 0 where
 abbrev pub full_fault : (room between : ℕ) → Fault
 full_fault room k = cond (nat_le room k) PairFull NoRoom
 
--- the network that a log stands for
-abbrev pub log_meaning : Log → Network
-log_meaning l = log_network l.ranks l.room (take l.used l.records.now)
-
--- the states that `new` gives and that the calls keep
-abbrev pub LogSound : Log → Type 0
-LogSound l = SoundLog l.ranks l.room l.used l.records.now
-
 -- a log of p ranks may be made of that many lent records
 abbrev pub usable : (p lent : ℕ) → Bool
 usable p lent = nat_le 1 p && (nat_le p most_ranks && nat_le 1 lent)
 
 -- a new log of p ranks over that many lent records: nothing waits; it has no ranks where it may not be made
 abbrev pub new_network : (p lent : ℕ) → Network
-new_network p lent = cond (usable p lent) (quiet p (min lent most_records) (min lent most_records) 4) (nobody 4)
+new_network p lent = cond (usable p lent) (quiet p (min lent most_records) (min lent most_records) most_words) (nobody most_words)
 
 -- the records that a new log holds, as they were: the first of those lent, or all where it may not be made
 abbrev pub new_records : (p : ℕ) → (lent : List Record) → List Record

@@ -10,7 +10,8 @@ use Rattle.transport.specs.Stored.{listed}
 use Rattle.transport.proofs.Stored.{listed_none, short_listed}
 use Rattle.shared_log.specs.declared.Record.{Record}
 use Rattle.shared_log.specs.declared.Log.{Log}
-use Rattle.shared_log.specs.Records.{of_pair, is_under, is_arrived, message_of, log_network, log_meaning, LogSound, Good, SoundLog}
+use Rattle.shared_log.specs.Records.{of_pair, is_under, is_arrived, message_of, most_words, log_network, Good, SoundLog}
+use Rattle.shared_log.specs.Meaning.{log_meaning}
 
 module _ (p room used : ℕ) (rs : List Record) (s : SoundLog p room used rs) where
   -- no message outside the pairs
@@ -27,13 +28,13 @@ module _ (p room used : ℕ) (rs : List Record) (s : SoundLog p room used rs) wh
               absurd (true≢false (sym g' ∙ e))
           by (inr y) = and_left (of_pair a b r) (u r) y
 
-  short : (test : Record → Bool) → Short 4 (listed message_of test (take used rs))
-  short test = short_listed message_of test 4 (take used rs) (All-weaker (Good p) (λ r. length (message_of r).words ≤ 4) brief (take used rs) s.good)
+  short : (test : Record → Bool) → Short most_words (listed message_of test (take used rs))
+  short test = short_listed message_of test most_words (take used rs) (All-weaker (Good p) (λ r. length (message_of r).words ≤ most_words) brief (take used rs) s.good)
     where
-      brief : (r : Record) → Good p r → length (take r.length r.words) ≤ 4
+      brief : (r : Record) → Good p r → length (take r.length r.words) ≤ most_words
       brief r g = let b = g.brief in simp length-take (omega arith)
 
-  records_shaped : Shaped 4 (log_network p room (take used rs))
+  records_shaped : Shaped most_words (log_network p room (take used rs))
   records_shaped = record {
     limited = refl;
     low = omega arith;
@@ -46,5 +47,5 @@ module _ (p room used : ℕ) (rs : List Record) (s : SoundLog p room used rs) wh
     short_arrived = λ a b. short (is_arrived a b);
   }
 
-pub log_shaped : (l : Log) → LogSound l → Shaped 4 (log_meaning l)
-log_shaped l = records_shaped l.ranks l.room l.used l.records.now
+pub log_shaped : (l : Log) → Shaped most_words (log_meaning l)
+log_shaped l = records_shaped l.ranks l.room l.used l.records.now l.sound

@@ -1,18 +1,20 @@
 // A transport over lent records: the messages of all pairs in one row, in the order in which they were sent.
 #![tactic(auto)]
 
-ghost use Rattle.std.specs.Prelude.{◌≡◌, ℕ, ◌+◌, ◌-◌, ◌<◌, ◌≤◌, min, true, false, length, take, if◌then◌else◌, Some, filter};
-ghost use Rattle.std.specs.List.{remove};
+ghost use Rattle.std.specs.Prelude.{◌≡◌, ◌-◌, ◌<◌, ◌≤◌, length, take, Some, filter};
+ghost use Rattle.std.specs.List.{position, remove};
 ghost use Rattle.transport.specs.Network.{written};
-ghost use Rattle.transport.specs.Stored.{Found};
-ghost use Rattle.shared_log.specs.Records.{of_pair, message_of, fits, full_fault, most_records, usable, log_meaning, LogSound, new_network, new_records};
-ghost use Rattle.shared_log.specs.Shape.{log_shaped};
+ghost use Rattle.shared_log.specs.Records.{of_pair, is_under, is_tagged, message_of, full_fault, most_words, usable, SoundLog, new_network, new_records};
+ghost use Rattle.shared_log.specs.Once.{SoundLog-prop};
 
-use ranks::{MAX_RANKS, is_pair};
+use ranks::{MAX_RANKS, Pair};
 use transport::{Fault, Transport};
 
 // The most records that a log uses.
 const MAX_RECORDS: usize = 1536;
+
+// The most words of a message.
+pub const MAX_WORDS: usize = 4;
 
 // A message with its ranks and the mark that it has arrived. C can lend a row of them.
 #[repr(C)]
@@ -22,112 +24,73 @@ pub struct Record {
     pub to: usize,
     pub tag: u32,
     pub length: usize,
-    pub words: [u32; 4],
+    pub words: [u32; MAX_WORDS],
     pub arrived: bool,
 }
 
-// What is looked for among the messages between two ranks.
-#[derive(Clone, Copy)]
-enum Wanted {
-    UnderWay,
-    Arrived(u32),
-}
-
 impl Record {
-    fn is_of_pair(&self, from: usize, to: usize) -> bool
-        ensures { result ≡ of_pair from to self.now }
+    fn is_of_pair(&self, pair: Pair) -> bool
+        ensures { result ≡ of_pair pair.from pair.to self.now }
     {
-        self.from == from && self.to == to
+        pair == Pair {
+            from: self.from,
+            to: self.to,
+        }
     }
 
-    fn is_wanted(&self, from: usize, to: usize, wanted: Wanted) -> bool
-        ensures { result ≡ fits from to wanted self.now }
+    fn is_under_way(&self, pair: Pair) -> bool
+        ensures { result ≡ is_under pair.from pair.to self.now }
     {
-        match wanted {
-            Wanted::UnderWay => self.is_of_pair(from, to) && !self.arrived,
-            Wanted::Arrived(tag) => self.is_of_pair(from, to) && self.arrived && self.tag == tag,
-        }
+        self.is_of_pair(pair) && !self.arrived
+    }
+
+    fn has_arrived(&self, pair: Pair, tag: u32) -> bool
+        ensures { result ≡ is_tagged pair.from pair.to tag self.now }
+    {
+        self.is_of_pair(pair) && self.arrived && self.tag == tag
     }
 
     // The message's words over the front of a buffer, and how many they are.
     fn read(&self, buffer: &mut [u32]) -> usize
-        requires { (self.now.length ≤ 4) × ((length self.now.words ≡ 4) × (4 ≤ length buffer.old)) }
+        requires brief { self.now.length ≤ MAX_WORDS }
+        requires space { MAX_WORDS ≤ length buffer.old }
         ensures count { result ≡ length (message_of self.now).words }
         ensures words { buffer.new ≡ written (Some (message_of self.now)) buffer.old }
     {
-        let length = self.length;
-        buffer[0..length].copy_from_slice(&self.words[0..length]);
-        length
+        let words = &self.words[..self.length];
+        buffer[..words.len()].copy_from_slice(words);
+        words.len()
     }
-}
-
-// The place of the oldest message that is wanted.
-fn oldest(records: &[Record], from: usize, to: usize, wanted: Wanted) -> Option<usize>
-    ensures { Found (fits from to wanted) records.now result }
-{
-    for (i, record) in records.iter().enumerate() {
-        if record.is_wanted(from, to, wanted) {
-            return Some(i);
-        }
-    }
-    None
-}
-
-// How many messages wait between two ranks.
-fn count_between(records: &[Record], from: usize, to: usize) -> usize
-    ensures { result ≡ length (filter (of_pair from to) records.now) }
-{
-    let mut count = 0;
-    for record in records {
-        if record.is_of_pair(from, to) {
-            count += 1;
-        }
-    }
-    count
-}
-
-// Of the first `used` records those that follow `at` move down by one place.
-fn close_gap(records: &mut [Record], used: usize, at: usize)
-    requires { (at < used) × (used ≤ length records.old) }
-    ensures { take (used - 1) records.new ≡ remove (take used records.old) at }
-{
-    let mut i = at;
-    while i + 1 < used {
-        records[i] = records[i + 1];
-        i += 1;
-    }
-}
-
-// Takes one of the first `used` records out, and answers how many are left.
-fn remove(records: &mut [Record], used: usize, at: usize) -> usize
-    requires { (at < used) × (used ≤ length records.old) }
-    ensures row { take result records.new ≡ remove (take used records.old) at }
-    ensures left { result ≡ used - 1 }
-{
-    close_gap(records, used, at);
-    used - 1
 }
 
 // The words of a message, with zeros behind them.
-fn held(words: &[u32]) -> [u32; 4]
-    requires { length words.now ≤ 4 }
-    ensures len { length result ≡ 4 }
+fn held(words: &[u32]) -> [u32; MAX_WORDS]
+    requires { length words.now ≤ MAX_WORDS }
+    ensures len { length result ≡ MAX_WORDS }
     ensures front { take (length words.now) result ≡ words.now }
 {
-    let mut block = [0; 4];
-    block[0..words.len()].copy_from_slice(words);
+    let mut block = [0; MAX_WORDS];
+    block[..words.len()].copy_from_slice(words);
     block
 }
 
-// How much room a log of so many ranks has over that many lent records: none where it may not be made.
-fn room_for(ranks: usize, lent: usize) -> usize
-    ensures { result ≡ (if usable ranks lent then min lent most_records else 0) }
+// Takes one of the first `used` records out: those that follow it move down by one place. Answers how many are left.
+#[tactic(auto, using(transport::proofs::Gaps::gap_closed))]
+fn remove(records: &mut [Record], used: usize, at: usize) -> usize
+    requires place { at < used }
+    requires within { used ≤ length records.old }
+    ensures row { take result records.new ≡ remove (take used records.old) at }
+    ensures left { result ≡ used - 1 }
 {
-    if 1 <= ranks && ranks <= MAX_RANKS {
-        lent.min(MAX_RECORDS)
-    } else {
-        0
-    }
+    records.copy_within(at + 1..used, at);
+    used - 1
+}
+
+// Whether a log of so many ranks may be made of that many lent records.
+fn is_usable(ranks: usize, lent: usize) -> bool
+    ensures { result ≡ usable ranks lent }
+{
+    (1..=MAX_RANKS).contains(&ranks) && lent >= 1
 }
 
 // A log holds the lent records that it uses, of which the first `used` have a message that waits.
@@ -138,27 +101,29 @@ pub struct Log<'a> {
     used: usize,
     ranks: usize,
     room: usize,
+    ghost sound: { SoundLog ranks room used records.now } by { SoundLog-prop ranks room used records.now },
 }
 
 impl<'a> Log<'a> {
+    ghost use Rattle.shared_log.specs.Meaning.{live, log_meaning};
+
     // A log of so many ranks over the first of the lent records, as many as a log uses.
+    #[tactic(auto, using(crate::proofs::Calls::take_least))]
     pub fn new(ranks: usize, records: &'a mut [Record]) -> Log<'a>
         ensures meaning { log_meaning result ≡ new_network ranks (length records.old) }
-        ensures sound { LogSound result }
         ensures untouched { result.records.now ≡ new_records ranks records.old }
     {
-        let room = room_for(ranks, records.len());
-        if room == 0 {
+        if !is_usable(ranks, records.len()) {
             return Log {
                 records,
                 used: 0,
                 ranks: 0,
-                room,
+                room: 0,
             };
         }
-        let records = &mut records[0..room];
+        let room = records.len().min(MAX_RECORDS);
         Log {
-            records,
+            records: &mut records[..room],
             used: 0,
             ranks,
             room,
@@ -167,34 +132,44 @@ impl<'a> Log<'a> {
 
     // The records of the messages that wait.
     fn in_use(&self) -> &[Record]
-        requires { self.now.used ≤ length self.now.records.now }
-        ensures { result.now ≡ take self.now.used self.now.records.now }
+        ensures { result.now ≡ live self.now }
     {
         &self.records[..self.used]
     }
 
     // How many messages wait between two ranks.
-    fn count(&self, from: usize, to: usize) -> usize
-        requires { self.now.used ≤ length self.now.records.now }
-        ensures { result ≡ length (filter (of_pair from to) (take self.now.used self.now.records.now)) }
+    fn count(&self, pair: Pair) -> usize
+        ensures { result ≡ length (filter (of_pair pair.from pair.to) (live self.now)) }
     {
-        count_between(self.in_use(), from, to)
+        self.in_use()
+            .iter()
+            .filter(|record| record.is_of_pair(pair))
+            .count()
     }
 
-    // The place of the oldest message that is wanted.
-    fn find(&self, from: usize, to: usize, wanted: Wanted) -> Option<usize>
-        requires { self.now.used ≤ length self.now.records.now }
-        ensures { Found (fits from to wanted) (take self.now.used self.now.records.now) result }
+    // The place of the oldest message under way between two ranks.
+    fn oldest_under_way(&self, pair: Pair) -> Option<usize>
+        ensures { result ≡ position (is_under pair.from pair.to) (live self.now) }
     {
-        oldest(self.in_use(), from, to, wanted)
+        self.in_use()
+            .iter()
+            .position(|record| record.is_under_way(pair))
+    }
+
+    // The place of the oldest message with a tag that has arrived between two ranks.
+    fn oldest_arrived(&self, pair: Pair, tag: u32) -> Option<usize>
+        ensures { result ≡ position (is_tagged pair.from pair.to tag) (live self.now) }
+    {
+        self.in_use()
+            .iter()
+            .position(|record| record.has_arrived(pair, tag))
     }
 
     // Why a log whose records are all used refuses a message.
-    fn full(&self, from: usize, to: usize) -> Fault
-        requires { self.now.used ≤ length self.now.records.now }
-        ensures { result ≡ full_fault self.now.room (length (filter (of_pair from to) (take self.now.used self.now.records.now))) }
+    fn full(&self, pair: Pair) -> Fault
+        ensures { result ≡ full_fault self.now.room (length (filter (of_pair pair.from pair.to) (live self.now))) }
     {
-        if self.count(from, to) >= self.room {
+        if self.count(pair) >= self.room {
             Fault::PairFull
         } else {
             Fault::NoRoom
@@ -203,15 +178,14 @@ impl<'a> Log<'a> {
 }
 
 impl Transport for Log<'_> {
-    const MESSAGE_LIMIT: usize = 4;
+    ghost use Rattle.shared_log.specs.Meaning.{log_meaning};
+    ghost use Rattle.shared_log.specs.Shape.{log_shaped};
 
-    ghost most = { 4 };
+    const MESSAGE_LIMIT: usize = MAX_WORDS;
+
+    ghost most = { most_words };
 
     ghost meaning = { log_meaning };
-
-    ghost sound = { LogSound };
-
-    ghost shaped = { log_shaped };
 
     fn limit(&self) -> usize {
         Self::MESSAGE_LIMIT
@@ -229,46 +203,48 @@ impl Transport for Log<'_> {
         self.room // for all pairs together
     }
 
+    #[tactic(auto, using(crate::proofs::Calls::net_waiting, crate::proofs::Calls::live_length))]
     fn waiting(&self) -> usize {
         self.in_use().len()
     }
 
-    fn waiting_between(&self, from: usize, to: usize) -> Result<usize, Fault> {
-        if !is_pair(self.ranks, from, to) {
+    #[tactic(auto, using(crate::proofs::Rows::listed_count), unfolding(transport::specs::Network::between_reply))]
+    fn waiting_between(&self, pair: Pair) -> Result<usize, Fault> {
+        if !pair.is_among(self.ranks) {
             return Err(Fault::BadPair);
         }
-        Ok(self.count(from, to))
+        Ok(self.count(pair))
     }
 
-    fn send(&mut self, from: usize, to: usize, tag: u32, words: &[u32]) -> Result<(), Fault> {
-        if !is_pair(self.ranks, from, to) {
+    #[tactic(auto, unfolding(transport::specs::Network::send_reply, transport::specs::Network::after_send))]
+    fn send(&mut self, pair: Pair, tag: u32, words: &[u32]) -> Result<(), Fault> {
+        if !pair.is_among(self.ranks) {
             return Err(Fault::BadPair);
         }
         if words.len() > Self::MESSAGE_LIMIT {
             return Err(Fault::TooLong);
         }
-        let used = self.used;
-        if used >= self.room {
-            return Err(self.full(from, to));
+        if self.used >= self.room {
+            return Err(self.full(pair));
         }
-        let record = Record {
-            from,
-            to,
+        self.records[self.used] = Record {
+            from: pair.from,
+            to: pair.to,
             tag,
             length: words.len(),
             words: held(words),
             arrived: false,
         };
-        self.records[used] = record;
-        self.used = used + 1;
+        self.used += 1;
         Ok(())
     }
 
-    fn carry(&mut self, from: usize, to: usize) -> Result<bool, Fault> {
-        if !is_pair(self.ranks, from, to) {
+    #[tactic(auto, using(crate::proofs::Calls::none_under), unfolding(transport::specs::Network::carry_reply, transport::specs::Network::after_carry))]
+    fn carry(&mut self, pair: Pair) -> Result<bool, Fault> {
+        if !pair.is_among(self.ranks) {
             return Err(Fault::BadPair);
         }
-        match self.find(from, to, Wanted::UnderWay) {
+        match self.oldest_under_way(pair) {
             Some(at) => {
                 self.records[at].arrived = true;
                 Ok(true)
@@ -277,28 +253,24 @@ impl Transport for Log<'_> {
         }
     }
 
-    fn take(
-        &mut self,
-        from: usize,
-        to: usize,
-        tag: u32,
-        buffer: &mut [u32],
-    ) -> Result<Option<usize>, Fault> {
-        if !is_pair(self.ranks, from, to) {
+    #[tactic(auto, using(crate::proofs::Calls::none_arrived), unfolding(transport::specs::Network::take_reply, transport::specs::Network::after_take, transport::specs::Network::taken_words))]
+    fn take(&mut self, pair: Pair, tag: u32, buffer: &mut [u32]) -> Result<Option<usize>, Fault> {
+        if !pair.is_among(self.ranks) {
             return Err(Fault::BadPair);
         }
         if buffer.len() < Self::MESSAGE_LIMIT {
             return Err(Fault::ShortBuffer);
         }
-        match self.find(from, to, Wanted::Arrived(tag)) {
+        match self.oldest_arrived(pair, tag) {
             Some(at) => {
                 let record = self.records[at];
                 let length = record.read(buffer);
-                let used = self.used;
-                self.used = remove(self.records, used, at);
+                self.used = remove(self.records, self.used, at);
                 Ok(Some(length))
             }
             None => Ok(None),
         }
     }
+
+    ghost shaped = { log_shaped };
 }

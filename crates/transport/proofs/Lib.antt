@@ -5,3 +5,4 @@ pub mod Many
 pub mod Passes
 pub mod Stored
 pub mod Shapes
+pub mod Gaps

@@ -188,7 +188,7 @@ taken_words n a b t buffer =
 abbrev pub Short : (limit : ℕ) → List Message → Type 0
 Short l ms = AllByRecursion (λ m. length m.words ≤ l) ms
 
--- what the network of a sound transport is like, where its kind has that limit: the limit is at most 8 words, there are at most
+-- what the network of every transport is like, where its kind has that limit: the limit is at most 8 words, there are at most
 -- as many ranks as may be, no ranks go with no depth and no room, and messages wait only between two different ranks and keep the limit
 pub record Shaped (most : ℕ) (n : Network) : Type 0 where
   pub limited : n.limit ≡ most

@@ -8,6 +8,8 @@ ghost use Rattle.transport.specs.Network.{waiting as waiting_in_all, between_rep
 ghost use Rattle.transport.specs.Network.{send_reply, after_send, carry_reply, after_carry};
 ghost use Rattle.transport.specs.Network.{take_reply, after_take, taken_words};
 
+use ranks::Pair;
+
 // Why a transport refuses a call.
 #[derive(Clone, Copy, PartialEq, Eq, Debug)]
 pub enum Fault {
@@ -38,7 +40,7 @@ impl Fault {
     }
 }
 
-// A transport means a network. Its calls ask only for a sound state, which `new` of each kind gives, and keep it.
+// A transport means a network. What its own state has to be is an invariant of its type, so a call asks for nothing.
 // A refused call changes nothing.
 pub trait Transport {
     // The most words of a message, which belongs to the kind of transport.
@@ -50,67 +52,47 @@ pub trait Transport {
     // the network that a transport stands for
     ghost meaning: { Self → Network };
 
-    // the states that `new` gives and that the calls keep
-    ghost sound: { Self → Type 0 };
-
-    // what the network of every sound transport is like; each `impl` gives the proof
-    ghost shaped: { (x : Self) → sound x → Shaped most (meaning x) };
-
     // How many words a message may have.
     fn limit(&self) -> usize
         ensures { result ≡ most };
 
     // How many ranks there are.
     fn ranks(&self) -> usize
-        requires { sound self.now }
         ensures { result ≡ (meaning self.now).ranks };
 
     // How many messages may wait between two ranks.
     fn depth(&self) -> usize
-        requires { sound self.now }
         ensures { result ≡ (meaning self.now).depth };
 
     // How many messages may wait in all.
     fn room(&self) -> usize
-        requires { sound self.now }
         ensures { result ≡ (meaning self.now).room };
 
     // How many messages wait in all.
     fn waiting(&self) -> usize
-        requires { sound self.now }
         ensures { result ≡ waiting_in_all (meaning self.now) };
 
     // How many messages wait from one rank to another.
-    fn waiting_between(&self, from: usize, to: usize) -> Result<usize, Fault>
-        requires { sound self.now }
-        ensures { counting result ≡ between_reply (meaning self.now) from to };
+    fn waiting_between(&self, pair: Pair) -> Result<usize, Fault>
+        ensures { counting result ≡ between_reply (meaning self.now) pair.from pair.to };
 
     // Puts a message under way.
-    fn send(&mut self, from: usize, to: usize, tag: u32, words: &[u32]) -> Result<(), Fault>
-        requires { sound self.old }
-        ensures answer { sending result ≡ send_reply (meaning self.old) from to words.now }
-        ensures after { meaning self.new ≡ after_send (meaning self.old) from to (message tag words.now) }
-        ensures kept { sound self.new };
+    fn send(&mut self, pair: Pair, tag: u32, words: &[u32]) -> Result<(), Fault>
+        ensures answer { sending result ≡ send_reply (meaning self.old) pair.from pair.to words.now }
+        ensures after { meaning self.new ≡ after_send (meaning self.old) pair.from pair.to (message tag words.now) };
 
     // Lets the oldest message under way arrive; false where there is none.
-    fn carry(&mut self, from: usize, to: usize) -> Result<bool, Fault>
-        requires { sound self.old }
-        ensures answer { carrying result ≡ carry_reply (meaning self.old) from to }
-        ensures after { meaning self.new ≡ after_carry (meaning self.old) from to }
-        ensures kept { sound self.new };
+    fn carry(&mut self, pair: Pair) -> Result<bool, Fault>
+        ensures answer { carrying result ≡ carry_reply (meaning self.old) pair.from pair.to }
+        ensures after { meaning self.new ≡ after_carry (meaning self.old) pair.from pair.to };
 
     // Takes out the oldest arrived message with a tag: its words go to the front of the buffer, and the answer is how many
     // they are, or none where there is no such message.
-    fn take(
-        &mut self,
-        from: usize,
-        to: usize,
-        tag: u32,
-        buffer: &mut [u32],
-    ) -> Result<Option<usize>, Fault>
-        requires { sound self.old }
-        ensures answer { taking result ≡ take_reply (meaning self.old) from to tag (length buffer.old) }
-        ensures words { buffer.new ≡ taken_words (meaning self.old) from to tag buffer.old }
-        ensures after { meaning self.new ≡ after_take (meaning self.old) from to tag (length buffer.old) }
-        ensures kept { sound self.new };
+    fn take(&mut self, pair: Pair, tag: u32, buffer: &mut [u32]) -> Result<Option<usize>, Fault>
+        ensures answer { taking result ≡ take_reply (meaning self.old) pair.from pair.to tag (length buffer.old) }
+        ensures words { buffer.new ≡ taken_words (meaning self.old) pair.from pair.to tag buffer.old }
+        ensures after { meaning self.new ≡ after_take (meaning self.old) pair.from pair.to tag (length buffer.old) };
+
+    // what the network of every transport is like
+    ghost shaped: { (x : Self) → Shaped most (meaning x) };
 }

@@ -13,23 +13,22 @@ returns-in_err-moved g c =
     let n = t.meaning c.args.below.now in
     refused_moved _ _
     (c.in_err-moved.ensures.answer
-    ∙ ap (λ m. carry_reply m c.args.from c.args.to) c.loop.invariant.1
-    ∙ carried_reply n c.args.from c.args.to c.loop.counter c.requires.pair)
+    ∙ ap (λ m. carry_reply m c.args.pair.from c.args.pair.to) c.loop.invariant.0
+    ∙ carried_reply n c.args.pair.from c.args.pair.to c.loop.counter c.requires.pair)
 
 pub loop-preserved : goal.loop-preserved
 loop-preserved g c =
     let t = g.T.Transport in
     let n = t.meaning c.args.below.now in
     let k : (c.loop.counter + 1) - 1 ≡ c.loop.counter = omega arith in (
-      c.carry.ensures.kept,
       c.carry.ensures.after
-          ∙ ap (λ m. after_carry m c.args.from c.args.to) c.loop.invariant.1
-          ∙ carried_one n c.args.from c.args.to c.loop.counter c.requires.pair,
+          ∙ ap (λ m. after_carry m c.args.pair.from c.args.pair.to) c.loop.invariant.0
+          ∙ carried_one n c.args.pair.from c.args.pair.to c.loop.counter c.requires.pair,
       (λ _.
           c.in_ok-moved.ensures.answer
-          ∙ ap (λ m. carry_reply m c.args.from c.args.to) c.loop.invariant.1
-          ∙ carried_reply n c.args.from c.args.to c.loop.counter c.requires.pair
-          ∙ ap (λ j. some_moved (drop j (n.under c.args.from c.args.to))) (sym k)),
+          ∙ ap (λ m. carry_reply m c.args.pair.from c.args.pair.to) c.loop.invariant.0
+          ∙ carried_reply n c.args.pair.from c.args.pair.to c.loop.counter c.requires.pair
+          ∙ ap (λ j. some_moved (drop j (n.under c.args.pair.from c.args.pair.to))) (sym k)),
     )
 
 pub returns : goal.returns
@@ -40,7 +39,6 @@ returns g c =
     let all : c.loop.counter ≡ pieces t.most = first ∙ ap pieces c.limit.ensures in
     let some : 0 < c.loop.counter = omega (arith, pieces_some t.most c.requires.some, all) in
     record {
-      answer = c.loop.invariant.2 some ∙ ap (λ k. some_moved (drop (k - 1) (n.under c.args.from c.args.to))) all;
-      after = c.loop.invariant.1 ∙ ap (carried_all n c.args.from c.args.to) all;
-      kept = c.loop.invariant.0;
+      answer = c.loop.invariant.1 some ∙ ap (λ k. some_moved (drop (k - 1) (n.under c.args.pair.from c.args.pair.to))) all;
+      after = c.loop.invariant.0 ∙ ap (carried_all n c.args.pair.from c.args.pair.to) all;
     }

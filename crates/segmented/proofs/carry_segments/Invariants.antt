@@ -7,6 +7,5 @@ use Rattle.segmented.proofs.carry_segments.Given as goal
 abbrev pub invariant-loop : goal.invariant-loop
 invariant-loop g l =
     let n = g.T.Transport.meaning l.initial.below in
-    g.T.Transport.sound l.below
-    × (g.T.Transport.meaning l.below ≡ carried_all n l.from l.to l.counter)
-    × (0 < l.counter → carrying (Ok l.moved) ≡ some_moved (drop (l.counter - 1) (n.under l.from l.to)))
+    (g.T.Transport.meaning l.below ≡ carried_all n l.pair.from l.pair.to l.counter)
+    × (0 < l.counter → carrying (Ok l.moved) ≡ some_moved (drop (l.counter - 1) (n.under l.pair.from l.pair.to)))

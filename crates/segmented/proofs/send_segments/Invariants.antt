@@ -1,9 +1,8 @@
-use Rattle.std.proofs.Common.{◌≡◌}
-use Rattle.transport.specs.Many.{sent_all}
-use Rattle.segmented.specs.Segments.{cut}
+use Rattle.std.proofs.Common.{length}
+use Rattle.segmented.proofs.Steps.{Sends}
 use Rattle.segmented.proofs.send_segments.Given as goal
 
-abbrev pub invariant-loop-k : goal.invariant-loop-k
-invariant-loop-k g l =
-    g.T.Transport.sound l.below
-    × (g.T.Transport.meaning l.below ≡ sent_all (g.T.Transport.meaning l.initial.below) l.from l.to (cut l.k g.T.Transport.most l.tag l.block))
+abbrev pub invariant-loop-segment : goal.invariant-loop-segment
+invariant-loop-segment g l =
+    let t = g.T.Transport in
+    Sends (t.meaning l.initial.below) l.pair.from l.pair.to t.most l.tag l.block (length l.yielded) (t.meaning l.below) l.segment-iterator.rest.now l.segment-iterator.size

@@ -1,69 +1,87 @@
-use Rattle.std.proofs.Common.{◌≡◌, ◌*◌, ◌<◌, min, length, take, is_some, Ok, sym, ap, ◌∙◌, arith}
-use Rattle.std.proofs.lemmas.List.{take_all}
-use Rattle.transport.specs.Network.{taking, with_lists, put}
-use Rattle.segmented.specs.Segments.{pieces, block}
-use Rattle.segmented.proofs.Coding.{pieces_some, pieces_enough, length-block}
-use Rattle.transport.specs.Many.{taken_all}
-use Rattle.segmented.proofs.Arith.{place_fits, over}
-use Rattle.segmented.proofs.Takes.{count_refused, turn_reply, turn_after, turn_none, turn_some, turn_gone, turn_words, short_found, left_some, none_some}
+use Rattle.std.proofs.Common.{◌++◌, ◌≡◌, ◌+◌, ◌-◌, not, ◌≤◌, length, Some, None, Ok, Option, take, drop, sym, refl, ap, replicate, ◌∙◌, subst, arith}
+use Rattle.std.proofs.lemmas.List.{length-append, length-take, length-drop}
+use Rattle.transport.specs.Network.{Message, taking}
+use borrow.Rule.Slice.PartMut as PartMut
+use Rattle.segmented.specs.Segments.{BlockOf}
+use Rattle.segmented.proofs.Takes.{takes_begin, none_of, some_of, takes_ready, takes_none, takes_more, takes_all, takes_rest}
 use Rattle.segmented.proofs.take_segments.Goals as goal
-
-pub overflow_mul-k : goal.overflow_mul-k
-overflow_mul-k g c =
-    let low = (g.T.Transport.shaped c.args.below.now c.requires.sound).low in
-    omega (arith, place_fits c.loop-k.k c.limit-limit.result (omega (arith, c.loop-k-test.true, c.pieces_over-k-end.ensures.value)) (omega (arith, c.limit-limit.ensures)))
 
 pub returns-in_err-take : goal.returns-in_err-take
 returns-in_err-take g c =
     let t = g.T.Transport in
     let n = t.meaning c.args.below.now in
-    let shape = t.shaped c.args.below.now c.requires.sound in
-    let wide : length c.loop-k.block ≡ 16 = omega (arith, c.loop-k.auto.block, c.requires.wide) in
-    count_refused _ _ (c.in_err-take.ensures.answer ∙ turn_reply n (t.meaning c.loop-k.below) c.args.from c.args.to c.args.tag c.loop-k.k t.most c.requires.pair shape.limited shape.low c.requires.some c.requires.coded c.limit-limit.result c.pieces_over-k-end.result c.min-start.result c.limit-limit.ensures c.pieces_over-k-end.ensures.value c.loop-k-test.true c.min-start.ensures c.loop-k.block wide c.loop-k.invariant.1)
+    let r = c.requires in
+    let l = c.loop-start in
+    let shape = g.met.T.Transport.shaped c.args.below.now in
+    takes_ready n c.args.pair.from c.args.pair.to c.args.tag t.most r.pair shape.limited shape.low r.some r.coded l.start (t.meaning l.below) l.block l.invariant.2 l.invariant.3 c.loop-start-test.true _ c.in_err-take.ensures.answer
 
-pub returns-in-None : goal.returns-in-None
-returns-in-None g c =
+pub returns-then-is_none : goal.returns-then-is_none
+returns-then-is_none g c =
     let t = g.T.Transport in
     let n = t.meaning c.args.below.now in
-    let shape = t.shaped c.args.below.now c.requires.sound in
-    let wide : length c.loop-k.block ≡ 16 = omega (arith, c.loop-k.auto.block, c.requires.wide) in
-    let absent = turn_none n (t.meaning c.loop-k.below) c.args.from c.args.to c.args.tag c.loop-k.k t.most c.requires.pair shape.limited shape.low c.requires.some c.requires.coded c.limit-limit.result c.pieces_over-k-end.result c.min-start.result c.limit-limit.ensures c.pieces_over-k-end.ensures.value c.loop-k-test.true c.min-start.ensures c.loop-k.block wide c.loop-k.invariant.1 (ap (λ o. taking (Ok o)) (sym c.in-None.is) ∙ c.in_ok-take.ensures.answer) in
-    record {
-      answer = ap (λ o. Ok (is_some o)) (sym absent);
-      words = λ m e. none_some m (sym absent ∙ e);
-      after = c.take.ensures.after ∙ turn_after n (t.meaning c.loop-k.below) c.args.from c.args.to c.args.tag c.loop-k.k t.most c.requires.pair shape.limited shape.low c.requires.some c.requires.coded c.limit-limit.result c.pieces_over-k-end.result c.min-start.result c.limit-limit.ensures c.pieces_over-k-end.ensures.value c.loop-k-test.true c.min-start.ensures c.loop-k.block wide c.loop-k.invariant.1 ∙ turn_gone n (t.meaning c.loop-k.below) c.args.from c.args.to c.args.tag c.loop-k.k t.most c.requires.pair shape.limited shape.low c.requires.some c.requires.coded c.limit-limit.result c.pieces_over-k-end.result c.min-start.result c.limit-limit.ensures c.pieces_over-k-end.ensures.value c.loop-k-test.true c.min-start.ensures c.loop-k.block wide c.loop-k.invariant.1 absent;
-      kept = c.take.ensures.kept;
-    }
+    let r = c.requires in
+    let l = c.loop-start in
+    let shape = g.met.T.Transport.shaped c.args.below.now in
+    let none = none_of c.in_ok-take.field-0 (c.is_none.ensures ∙ ap not c.if-is_none.true) in
+    let k = takes_none n c.args.pair.from c.args.pair.to c.args.tag t.most r.pair shape.limited shape.low r.some r.coded l.start (t.meaning l.below) l.block l.invariant.2 l.invariant.3 c.loop-start-test.true (t.meaning c.take.new.self) c.take.ensures.after (ap (λ o. taking (Ok o)) (sym none) ∙ c.in_ok-take.ensures.answer) in
+    record { found = subst (λ (o : Option Message). BlockOf o (Ok None)) (sym k.0) refl; after = k.1 }
 
-pub loop-k-preserved : goal.loop-k-preserved
-loop-k-preserved g c =
+pub loop-start-preserved : goal.loop-start-preserved
+loop-start-preserved g c =
     let t = g.T.Transport in
     let n = t.meaning c.args.below.now in
-    let shape = t.shaped c.args.below.now c.requires.sound in
-    let wide : length c.loop-k.block ≡ 16 = omega (arith, c.loop-k.auto.block, c.requires.wide) in (
-      c.take.ensures.kept,
-      c.take.ensures.after ∙ turn_after n (t.meaning c.loop-k.below) c.args.from c.args.to c.args.tag c.loop-k.k t.most c.requires.pair shape.limited shape.low c.requires.some c.requires.coded c.limit-limit.result c.pieces_over-k-end.result c.min-start.result c.limit-limit.ensures c.pieces_over-k-end.ensures.value c.loop-k-test.true c.min-start.ensures c.loop-k.block wide c.loop-k.invariant.1,
-      (λ m e. turn_words n (t.meaning c.loop-k.below) c.args.from c.args.to c.args.tag c.loop-k.k t.most c.requires.pair shape.limited shape.low c.requires.some c.requires.coded c.limit-limit.result c.pieces_over-k-end.result c.min-start.result c.limit-limit.ensures c.pieces_over-k-end.ensures.value c.loop-k-test.true c.min-start.ensures c.loop-k.block wide c.loop-k.invariant.1 m c.take.new.buffer _ e (c.loop-k.invariant.2 m e) c.take.ensures.words),
-      (λ _. turn_some n (t.meaning c.loop-k.below) c.args.from c.args.to c.args.tag c.loop-k.k t.most c.requires.pair shape.limited shape.low c.requires.some c.requires.coded c.limit-limit.result c.pieces_over-k-end.result c.min-start.result c.limit-limit.ensures c.pieces_over-k-end.ensures.value c.loop-k-test.true c.min-start.ensures c.loop-k.block wide c.loop-k.invariant.1 c.in-Some.field-0 (ap (λ o. taking (Ok o)) (sym c.in-Some.is) ∙ c.in_ok-take.ensures.answer)),
+    let r = c.requires in
+    let l = c.loop-start in
+    let shape = g.met.T.Transport.shaped c.args.below.now in
+    let some = some_of c.in_ok-take.field-0 (c.is_none.ensures ∙ ap not c.if-is_none.false) in
+    let part : length c.take.new.buffer ≡ length (take (16 - l.start) (drop l.start l.block)) = c.take.auto.buffer in (
+      c.limit-start-step.ensures,
+      l.invariant.1,
+      simp (length-append, length-take, length-drop) (omega (arith, l.invariant.2, simp (length-take, length-drop) at part)),
+      takes_more n c.args.pair.from c.args.pair.to c.args.tag t.most r.pair shape.limited shape.low r.some r.coded l.start (t.meaning l.below) l.block l.invariant.2 l.invariant.3 c.loop-start-test.true (t.meaning c.take.new.self) c.take.ensures.after some.0 c.take.new.buffer _ (l.start + c.limit-start-step.result)
+          (ap (λ o. taking (Ok o)) (sym some.1) ∙ c.in_ok-take.ensures.answer) c.take.ensures.words (ap (λ x. l.start + x) c.limit-start-step.ensures),
     )
 
 pub returns : goal.returns
 returns g c =
     let t = g.T.Transport in
     let n = t.meaning c.args.below.now in
-    let first : c.loop-k.k ≡ pieces c.limit-limit.result = omega (arith, c.loop-k-test.false, c.loop-k.auto.k-end, c.pieces_over-k-end.ensures.value) in
-    let all : c.loop-k.k ≡ pieces t.most = first ∙ ap pieces c.limit-limit.ensures in
-    let some : 0 < c.loop-k.k = omega (arith, pieces_some t.most c.requires.some, all) in
-    let found = c.loop-k.invariant.3 some in
-    let enough : min (c.loop-k.k * t.most) 8 ≡ 8 = ap (λ k. min (k * t.most) 8) all ∙ over (pieces t.most * t.most) (pieces_enough t.most c.requires.some) in
+    let r = c.requires in
+    let l = c.loop-start in
+    let shape = g.met.T.Transport.shaped c.args.below.now in
+    let m = takes_all n c.args.pair.from c.args.pair.to c.args.tag t.most r.pair shape.limited shape.low r.some r.coded l.start (t.meaning l.below) l.block l.invariant.2 l.invariant.3 c.loop-start-test.false in
     record {
-      answer = ap Ok (sym found);
-      words = λ m e.
-          ap (λ x. take x c.loop-k.block) (sym enough) ∙ c.loop-k.invariant.2 m e ∙ ap (λ k. take (k * t.most) (block m.words)) all
-          ∙ take_all (pieces t.most * t.most) (block m.words) (omega (arith, pieces_enough t.most c.requires.some, length-block m.words (short_found t.most c.args.tag c.requires.some (n.arrived c.args.from c.args.to) c.requires.coded m e)));
-      after =
-          c.loop-k.invariant.1
-          ∙ ap (λ k. taken_all n c.args.from c.args.to c.args.tag k) all
-          ∙ ap (λ l. with_lists n n.under (put n.arrived c.args.from c.args.to l)) (left_some t.most c.args.tag c.requires.some (n.arrived c.args.from c.args.to) c.requires.coded found);
-      kept = c.loop-k.invariant.0;
+      found = subst (λ (o : Option Message). BlockOf o (Ok (Some l.block))) (sym m.1) (l.block, refl, m.2);
+      after = takes_rest n c.args.pair.from c.args.pair.to c.args.tag t.most r.pair shape.limited shape.low r.some r.coded l.start (t.meaning l.below) l.block l.invariant.2 l.invariant.3 c.loop-start-test.false;
+    }
+
+pub loop-start-init : goal.loop-start-init
+loop-start-init g c =
+    let t = g.T.Transport in
+    let shape = g.met.T.Transport.shaped c.args.below.now in (
+      c.limit-start-step.ensures,
+      omega (arith, c.limit-start-step.ensures, shape.low),
+      refl,
+      takes_begin (t.meaning c.args.below.now) c.args.pair.from c.args.pair.to c.args.tag t.most (replicate 16 0),
+    )
+
+-- the last turn
+pub returns-else-is_none : goal.returns-else-is_none
+returns-else-is_none g c =
+    let t = g.T.Transport in
+    let n = t.meaning c.args.below.now in
+    let r = c.requires in
+    let l = c.loop-start in
+    let shape = g.met.T.Transport.shaped c.args.below.now in
+    let some = some_of c.in_ok-take.field-0 (c.is_none.ensures ∙ ap not c.if-is_none.false) in
+    let part : length c.take.new.buffer ≡ length (take (16 - l.start) (drop l.start l.block)) = c.take.auto.buffer in
+    let next = takes_more n c.args.pair.from c.args.pair.to c.args.tag t.most r.pair shape.limited shape.low r.some r.coded l.start (t.meaning l.below) l.block l.invariant.2 l.invariant.3 c.loop-start-test.true (t.meaning c.take.new.self) c.take.ensures.after some.0 c.take.new.buffer _ (l.start + c.limit-start-step.result) (ap (λ o. taking (Ok o)) (sym some.1) ∙ c.in_ok-take.ensures.answer) c.take.ensures.words (ap (λ x. l.start + x) c.limit-start-step.ensures) in
+    let end = l.start + c.limit-start-step.result in
+    let over : 8 ≤ l.start + c.limit-start-step.result = omega (arith, c.loop-start-test.true) in
+    let block = take l.start l.block ++ (c.take.new.buffer ++ PartMut.post_of l.start (16 - l.start) l.block) in
+    let long : length block ≡ 16 = simp (length-append, length-take, length-drop) (omega (arith, l.invariant.2, simp (length-take, length-drop) at part)) in
+    let m = takes_all n c.args.pair.from c.args.pair.to c.args.tag t.most r.pair shape.limited shape.low r.some r.coded end (t.meaning c.take.new.self) block long next over in
+    record {
+      found = subst (λ (o : Option Message). BlockOf o (Ok (Some block))) (sym m.1) (block, refl, m.2);
+      after = takes_rest n c.args.pair.from c.args.pair.to c.args.tag t.most r.pair shape.limited shape.low r.some r.coded end (t.meaning c.take.new.self) block long next over;
     }

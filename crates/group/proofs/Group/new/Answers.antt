@@ -1,34 +1,24 @@
-use Rattle.std.proofs.Common.{◌≡◌, ℕ, ◌<◌, length, sym, refl, ap, ◌∙◌, subst, arith}
-use Rattle.ranks.specs.Ranks.{most_ranks}
-use Rattle.transport.specs.Network.{waiting}
-use Rattle.transport.proofs.Shapes.{layer_closed}
-use Rattle.group.specs.Members.{open_group, GoodList, new_group}
-use Rattle.group.proofs.Layer.{new_is, new_grouping}
+use Rattle.std.proofs.Common.{refl}
+use Rattle.group.proofs.Layer.{members_grouping, members_all, members_none}
 use Rattle.group.proofs.Group.new.Goals as goal
+
+pub invariant_of-result : goal.invariant_of-result
+invariant_of-result g c =
+    let t = g.T.Transport in
+    let b = c.args.below in
+    record { grouping = members_grouping t.most c.args.ranks.now (t.meaning b) (g.met.T.Transport.shaped b) c.new_members-members.result.items c.new_members-members.ensures.some }
 
 pub returns : goal.returns
 returns g c =
     let t = g.T.Transport in
     let n = t.meaning c.args.below in
-    let shape = t.shaped c.args.below c.requires in
-    let r = c.fill_table-count.result in
-    let f = c.fill_table-count.ensures in
-    let table = c.fill_table-count.new.table in
+    let shape = g.met.T.Transport.shaped c.args.below in
     let list = c.args.ranks.now in
-    let p = c.ranks.ensures in
-    let to : GoodList n.ranks list → GoodList c.ranks.result list = λ x. subst (λ (q : ℕ). GoodList q list) (sym p) x in
-    let from : GoodList c.ranks.result list → GoodList n.ranks list = λ x. subst (λ (q : ℕ). GoodList q list) p x in
-    let quiet : waiting n ≡ 0 = omega (arith, c.waiting.ensures, c.if-waiting-gt0.false) in
-    let used : 0 < r → GoodList n.ranks list = λ h. from (f.used h) in
-    let whole : 0 < r → r ≡ length list = λ h. f.good (f.used h) in
-    let long : length table ≡ most_ranks = c.fill_table-count.auto.table in
+    let items = c.new_members-members.result.items in
+    let k = c.new_members-members.ensures in
     record {
       held = refl;
-      good = λ x _.
-          let e = f.good (to x) in
-          let h : 0 < r = omega (arith, e, x.some) in
-          new_is t.most list table n shape r f.few long used whole (λ _. quiet) f.filled h ∙ ap (λ k. new_group k n) e;
-      bad = λ no_list. layer_closed t.most r (open_group r table n) (f.bad (λ x. no_list (from x)));
-      busy = λ no_quiet. absurd (no_quiet quiet);
-      sound = (c.requires, new_grouping t.most list table n shape r f.few long used whole (λ _. quiet) f.filled);
+      good = λ good idle. members_all t.most list n shape items k.some good idle (k.all good idle);
+      bad = λ no. members_none t.most list n shape items k.some (λ l. no l.0);
+      busy = λ no. members_none t.most list n shape items k.some (λ l. no l.1);
     }

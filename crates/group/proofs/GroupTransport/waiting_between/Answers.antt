@@ -1,26 +1,25 @@
-use Rattle.std.proofs.Common.{ℕ, false, sym, refl, ap, ◌∙◌}
-use Rattle.transport.specs.Network.{between_reply}
-use Rattle.transport.proofs.Replies.{between_bad}
-use Rattle.transport.proofs.Pairs.{pair_positive}
-use Rattle.transport.proofs.Shapes.{layer_pair}
-use Rattle.group.specs.Members.{open_group, grouped}
-use Rattle.group.proofs.Layer.{open_is, between_reply_same}
+use Rattle.std.proofs.Common.{length, ap, ◌∙◌}
+use Rattle.std.proofs.lemmas.Result.{err_from_is_err_and}
+use Rattle.transport.specs.Network.{counting}
+use Rattle.group.proofs.Calls.{bad_pair, refused_between, found_between}
 use Rattle.group.proofs.GroupTransport.waiting_between.Goals as goal
 
-pub returns-then-not-is_pair : goal.returns-then-not-is_pair
-returns-then-not-is_pair g c =
+pub returns-in_err-pair_below : goal.returns-in_err-pair_below
+returns-in_err-pair_below g c =
     let t = g.T.Transport in
     let l = c.args.self.now in
+    let list = l.members.items in
     let n = t.meaning l.below in
-    sym (between_bad (grouped t.most l.count l.table n) c.args.from c.args.to (layer_pair t.most l.count (open_group l.count l.table n) refl c.args.from c.args.to false (sym c.if-not-is_pair.ensures)))
+    let k = c.in_err-pair_below.ensures in
+    let p = err_from_is_err_and c.from_residual.result c.from_residual.ensures.1 in
+    let r = bad_pair c.from_residual.result p.0 c.in_err-pair_below.field-0.0 p.1 p.2 k.fault in
+    ap counting r ∙ refused_between t.most (length list) list n c.args.pair.from c.args.pair.to k.bad
 
 pub returns : goal.returns
 returns g c =
     let t = g.T.Transport in
     let l = c.args.self.now in
+    let list = l.members.items in
     let n = t.meaning l.below in
-    let shape = t.shaped l.below c.requires.0 in
-    let e = sym c.if-not-is_pair.ensures in
-    let h = pair_positive l.count c.args.from c.args.to e in
-    let o = open_is t.most l.count l.table n h in
-    c.waiting_between.ensures ∙ ap (λ (q : ℕ × ℕ). between_reply n q.0 q.1) c.pair_below-from.ensures ∙ between_reply_same t.most l.count l.table n shape c.requires.1 h c.args.from c.args.to e ∙ ap (λ m. between_reply m c.args.from c.args.to) (sym o)
+    let k = c.in_ok-pair_below.ensures in
+    c.waiting_between.ensures ∙ found_between t.most (length list) list n (g.met.T.Transport.shaped l.below) l.grouping c.args.pair.from c.args.pair.to k.good c.in_ok-pair_below.field-0.from c.in_ok-pair_below.field-0.to k.ok
