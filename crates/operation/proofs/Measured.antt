@@ -1,13 +1,9 @@
 -- The element of two texts, one after the other, is the join of their elements.
-use Rattle.std.proofs.Common.{◌≡◌, ℕ, ◌+◌, ◌-◌, ◌%◌, ◌^◌, ◌<◌, ◌≤◌, Bool, true, false, cond, not, ◌&&◌, List, [], ◌∷◌, ◌++◌, length, get_or, take, sym, refl, ap, ◌∙◌, append-nil, arith, length-append}
-use Rattle.std.proofs.lemmas.List.{take_more}
+use Rattle.std.proofs.Common.{◌≡◌, ◌==◌, ℕ, ◌+◌, ◌-◌, ◌%◌, ◌^◌, ◌≤◌, Bool, true, false, cond, not, ◌&&◌, List, [], ◌∷◌, Some, None, ◌++◌, length, sym, refl, ap, ◌∙◌, append-nil, append_assoc, arith, length-append}
+use Rattle.std.proofs.lemmas.List.Sums.{sum_by-append}
+use Rattle.std.specs.List.{fold}
 use Rattle.operation.specs.TextLaws.{lost_small}
 use Rattle.operation.specs.Text.{counts_of, text_join, lost_word, measured, in_word, line_count, word_starts, word_count, last_byte}
-use Rattle.operation.specs.declared.text.TextElement.TheVariants.{Filled}
-
-lines_append : (xs ys : List ℕ) → line_count (xs ++ ys) ≡ line_count xs + line_count ys
-lines_append [] ys = omega arith
-lines_append (x ∷ xs) ys = let h = lines_append xs ys in omega arith
 
 last_append : (x : ℕ) (xs : List ℕ) (y : ℕ) (ys : List ℕ) → last_byte x (xs ++ (y ∷ ys)) ≡ last_byte y ys
 last_append x [] y ys = refl
@@ -41,13 +37,13 @@ sum-mod_lost n a b j k e = omega arith
 
 filled_append : (x : ℕ) (xs : List ℕ) (y : ℕ) (ys : List ℕ)
     → measured ((x ∷ xs) ++ (y ∷ ys)) ≡ text_join (measured (x ∷ xs)) (measured (y ∷ ys))
-filled_append x xs y ys = λ i. Filled (counts_of (bytes i) (lines i) (words i) (in_word x) (in_word (last_append x xs y ys i)))
+filled_append x xs y ys = λ i. Some (counts_of (bytes i) (lines i) (words i) (in_word x) (in_word (last_append x xs y ys i)))
   where
     bytes : length ((x ∷ xs) ++ (y ∷ ys)) % 2 ^ 32 ≡ (length (x ∷ xs) % 2 ^ 32 + length (y ∷ ys) % 2 ^ 32) % 2 ^ 32
     bytes = sum-mod _ _ _ (length-append (x ∷ xs) (y ∷ ys))
 
     lines : line_count ((x ∷ xs) ++ (y ∷ ys)) % 2 ^ 32 ≡ (line_count (x ∷ xs) % 2 ^ 32 + line_count (y ∷ ys) % 2 ^ 32) % 2 ^ 32
-    lines = sum-mod _ _ _ (lines_append (x ∷ xs) (y ∷ ys))
+    lines = sum-mod _ _ _ (sum_by-append (λ b. cond (b == 10) 1 0) (x ∷ xs) (y ∷ ys))
 
     words : word_count ((x ∷ xs) ++ (y ∷ ys)) % 2 ^ 32
         ≡ (word_count (x ∷ xs) % 2 ^ 32 + word_count (y ∷ ys) % 2 ^ 32 + (2 ^ 32 - lost_word (in_word (last_byte x xs)) (in_word y))) % 2 ^ 32
@@ -58,9 +54,13 @@ measured_append [] ys = refl
 measured_append (x ∷ xs) [] = ap measured (append-nil (x ∷ xs))
 measured_append (x ∷ xs) (y ∷ ys) = filled_append x xs y ys
 
--- one byte more
-pub measured_next : (xs : List ℕ) (i : ℕ) (x : ℕ) → i < length xs → x ≡ get_or xs i 0
-    → text_join (measured (take i xs)) (measured (x ∷ [])) ≡ measured (take (i + 1) xs)
-measured_next xs i x within read =
-    sym (measured_append (take i xs) (x ∷ []))
-    ∙ ap measured (ap (λ y. take i xs ++ (y ∷ [])) read ∙ sym (take_more xs i 0 within))
+-- joining the elements of single bytes, one by one
+joined_bytes : (xs ys : List ℕ) → fold (λ sum b. text_join sum (measured (b ∷ []))) (measured xs) ys ≡ measured (xs ++ ys)
+joined_bytes xs [] = ap measured (sym (append-nil xs))
+joined_bytes xs (y ∷ ys) =
+    ap (λ sum. fold (λ s b. text_join s (measured (b ∷ []))) sum ys) (sym (measured_append xs (y ∷ [])))
+    ∙ joined_bytes (xs ++ (y ∷ [])) ys
+    ∙ ap measured (append_assoc xs (y ∷ []) ys)
+
+pub measured_by_byte : (bytes : List ℕ) → fold (λ sum b. text_join sum (measured (b ∷ []))) None bytes ≡ measured bytes
+measured_by_byte bytes = joined_bytes [] bytes

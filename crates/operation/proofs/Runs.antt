@@ -1,6 +1,8 @@
 -- Counting the places where a word starts counts the longest runs.
 use Rattle.std.proofs.Common.{◌≡◌, ℕ, zero, suc, ◌+◌, ◌<◌, ◌≤◌, Bool, true, false, cond, not, ◌&&◌, List, [], ◌∷◌, length, get_or, refl, ap, subst, inl, inr, arith}
-use Rattle.std.proofs.lemmas.Bool.{cases_Bool, cases_lt, cases_order, both_ways, and_parts, not-true}
+use Rattle.std.proofs.lemmas.Bool.{cases_lt, cases_order, both_ways, and_parts, not-true}
+use Rattle.std.proofs.lemmas.List.Sums.{prefix_len-le-length, prefix_len_passes, prefix_len_stops}
+use Rattle.std.specs.List.{prefix_len}
 use Rattle.operation.specs.Text.{in_word, word_starts, word_count}
 use Rattle.operation.specs.Runs.{LongestRun, RunsCounted}
 
@@ -53,35 +55,18 @@ rest inside b bs from to r = record {
 
 -- The run at the front
 
--- how many bytes at the front are part of a word
-front : List ℕ → ℕ
-front [] = 0
-front (b ∷ bs) = cond (in_word b) (suc (front bs)) 0
-
+-- the first n bytes are those at the front that are part of a word
 pub record Front (bs : List ℕ) (n : ℕ) : Type 0 where
   pub fits : n ≤ length bs
   pub unspaced : (i : ℕ) → i < n → in_word (get_or bs i 0) ≡ true
   pub ends : n < length bs → in_word (get_or bs n 0) ≡ false
 
-front_longer : (b : ℕ) (bs : List ℕ) (n : ℕ) → in_word b ≡ true → Front bs n → Front (b ∷ bs) (suc n)
-front_longer b bs n e f = record {
-  fits = omega (arith, f.fits);
-  unspaced = unspaced;
-  ends = λ h. f.ends (omega arith);
+front_is : (bs : List ℕ) → Front bs (prefix_len in_word bs)
+front_is bs = record {
+  fits = prefix_len-le-length in_word bs;
+  unspaced = λ i h. prefix_len_passes in_word bs i 0 h;
+  ends = λ h. prefix_len_stops in_word bs 0 h;
 }
-  where
-    unspaced : (i : ℕ) → i < suc n → in_word (get_or (b ∷ bs) i 0) ≡ true
-    unspaced zero h = e
-    unspaced (suc i) h = f.unspaced i (omega arith)
-
-front_is : (bs : List ℕ) → Front bs (front bs)
-unfolding front
-front_is [] = record { fits = omega arith; unspaced = λ i h. absurd (omega arith); ends = λ h. absurd (omega arith) }
-front_is (b ∷ bs) =
-    elim (cases_Bool (in_word b)) [
-      | inl e ↦ rw e (front_longer b bs (front bs) e (front_is bs))
-      | inr e ↦ rw e (record { fits = omega arith; unspaced = λ i h. absurd (omega arith); ends = λ h. e })
-    ]
 
 -- there is one such front
 front_only : (bs : List ℕ) (m n : ℕ) → Front bs m → Front bs n → m < n → ⊥
@@ -149,29 +134,29 @@ module _ (inside : Bool) (b : ℕ) (bs : List ℕ) (n : ℕ) where
   unfolding placed
   begins_here w e l = record {
     from = placed 0 l.from;
-    to = placed (suc (front bs)) l.to;
+    to = placed (1 + prefix_len in_word bs) l.to;
     each = each;
     ascending = ascending;
     all = all;
   }
     where
-      here : Front (b ∷ bs) (suc (front bs))
-      here = front_longer b bs (front bs) w (front_is bs)
+      here : Front (b ∷ bs) (1 + prefix_len in_word bs)
+      here = subst (λ t. Front (b ∷ bs) (cond t (1 + prefix_len in_word bs) 0)) w (front_is (b ∷ bs))
 
-      each : (k : ℕ) → k < 1 + n → Run inside (b ∷ bs) (placed 0 l.from k) (placed (suc (front bs)) l.to k)
-      each zero h = run_of_front inside (b ∷ bs) (suc (front bs)) (omega arith) e here
+      each : (k : ℕ) → k < 1 + n → Run inside (b ∷ bs) (placed 0 l.from k) (placed (1 + prefix_len in_word bs) l.to k)
+      each zero h = run_of_front inside (b ∷ bs) (1 + prefix_len in_word bs) (omega arith) e here
       each (suc k) h = behind inside b bs _ _ (l.each k (omega arith))
 
-      ascending : (j k : ℕ) → j < k → k < 1 + n → placed (suc (front bs)) l.to j < placed 0 l.from k
+      ascending : (j k : ℕ) → j < k → k < 1 + n → placed (1 + prefix_len in_word bs) l.to j < placed 0 l.from k
       ascending j zero h g = absurd (omega arith)
       ascending zero (suc k) h g =
           let r : Run true bs (l.from k) (l.to k) = subst (λ t. Run t bs (l.from k) (l.to k)) w (l.each k (omega arith)) in
-          let a = front_before bs (front bs) (l.from k) (l.to k) (front_is bs) r in
+          let a = front_before bs (prefix_len in_word bs) (l.from k) (l.to k) (front_is bs) r in
           omega arith
       ascending (suc j) (suc k) h g = let a = l.ascending j k (omega arith) (omega arith) in omega arith
 
-      all : (a t : ℕ) → Run inside (b ∷ bs) a t → (k : ℕ) × (k < 1 + n) × (placed 0 l.from k ≡ a) × (placed (suc (front bs)) l.to k ≡ t)
-      all zero t r = (0, omega arith, refl, front_same (b ∷ bs) (suc (front bs)) t here (front_of_run (b ∷ bs) t r.longest))
+      all : (a t : ℕ) → Run inside (b ∷ bs) a t → (k : ℕ) × (k < 1 + n) × (placed 0 l.from k ≡ a) × (placed (1 + prefix_len in_word bs) l.to k ≡ t)
+      all zero t r = (0, omega arith, refl, front_same (b ∷ bs) (1 + prefix_len in_word bs) t here (front_of_run (b ∷ bs) t r.longest))
       all (suc a) zero r = absurd (omega (arith, r.longest.some))
       all (suc a) (suc t) r =
           let k = l.all a t (rest inside b bs a t r) in

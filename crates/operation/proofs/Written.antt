@@ -1,18 +1,14 @@
--- A block at the front of lent words, and what it unpacks to.
-use Rattle.std.proofs.Common.{◌≡◌, ℕ, ◌+◌, ◌-◌, ◌<◌, ◌≤◌, true, leb, List, [], ◌++◌, length, take, drop, Ok, refl, ap, ◌∙◌, ap₂, append-nil, arith, length-append, length-drop, take_all}
+-- A block at the front of lent words.
+use Rattle.std.proofs.Common.{◌≡◌, ℕ, ◌+◌, ◌-◌, ◌≤◌, leb, List, [], ◌++◌, length, take, drop, refl, ap, ◌∙◌, ap₂, append-nil, arith, length-append, length-drop, take_all}
 use borrow.Rule.Slice.PartMut.{put_mid}
 use lib.Seq.{take-append-le}
 use Rattle.std.proofs.lemmas.List.{drop_all}
-use Rattle.std.proofs.lemmas.Bool.{cond-true, cond-false, cond_both, leb-true, le-leb, lt-leb}
-use Rattle.operation.specs.Meaning.{Meaning, Packing, written}
+use Rattle.std.proofs.lemmas.Bool.{cond-true, cond_both, leb-true, le-leb}
+use Rattle.operation.specs.Meaning.{written}
 
 pub written_enough : (b ws : List ℕ) → length b ≤ length ws → written b ws ≡ b ++ drop (length b) ws
 unfolding written
 written_enough b ws h = cond-true (leb (length b) (length ws)) (b ++ drop (length b) ws) ws (le-leb (length b) (length ws) h)
-
-pub written_few : (b ws : List ℕ) → length ws < length b → written b ws ≡ ws
-unfolding written
-written_few b ws h = cond-false (leb (length b) (length ws)) (b ++ drop (length b) ws) ws (lt-leb (length b) (length ws) h)
 
 pub length-written : (b ws : List ℕ) → length (written b ws) ≡ length ws
 unfolding written
@@ -34,13 +30,3 @@ written_behind v xs b part e =
     let whole : take (length xs - v) (drop v xs) ≡ drop v xs = take_all (length xs - v) (drop v xs) (simp length-drop (omega arith)) in
     let none : drop (length xs - v) (drop v xs) ≡ [] = drop_all (length xs - v) (drop v xs) (simp length-drop (omega arith)) in
     ap (λ r. take v xs ++ r) (ap₂ ◌++◌ (e ∙ ap (written b) whole) none ∙ append-nil (written b (drop v xs)))
-
--- the block of a proper element, written to the front of enough words, is read again
-pub unpack_written : {E : Type 0} (m : Meaning E) → Packing m → (x : E) → m.proper x ≡ true
-    → (ws out : List ℕ) → out ≡ written (m.pack x) ws → m.width ≤ length ws → (n : ℕ) → n ≡ m.width → m.unpack (take n out) ≡ Ok x
-unpack_written m packing x proper ws out e room n w =
-    let l = packing.pack_length x proper in
-    let fits : length (m.pack x) ≤ length ws = omega arith in
-    let k : n ≡ length (m.pack x) = omega arith in
-    ap m.unpack (ap (take n) e ∙ ap (λ i. take i (written (m.pack x) ws)) k ∙ take-written (m.pack x) ws fits)
-    ∙ packing.unpack_pack x proper

@@ -1,8 +1,7 @@
 -- Maps y → a × y + b modulo m, joined by doing the left one first.
 use Rattle.std.specs.Prelude.{ℕ, ◌+◌, ◌*◌, ◌%◌, Bool, cond, ◌&&◌, [], ◌∷◌, Ok, Err, Result, nat_le, nat_lt, slice_index}
-use Rattle.operation.specs.Meaning.{Meaning, sized}
+use Rattle.operation.specs.Meaning.{Meaning, sized, where_below}
 use Rattle.operation.specs.declared.fault.BlockFault.{BlockFault}
-use Rattle.operation.specs.declared.fault.BlockFault.TheVariants.{WrongWord}
 use Rattle.operation.specs.declared.fault.ModulusFault.{ModulusFault}
 use Rattle.operation.specs.declared.fault.ModulusFault.TheVariants.{OutOfRange}
 use Rattle.operation.specs.declared.affine.AffineElement.{AffineElement}
@@ -24,7 +23,7 @@ affine_join m x y = affine_of ((y.a * x.a) % m) ((y.a * x.b + y.b) % m)
 
 -- the wrong word is the first that is not below the modulus
 abbrev pub affine_read : (m a b : ℕ) → Result AffineElement BlockFault
-affine_read m a b = cond (nat_lt a m) (cond (nat_lt b m) (Ok (affine_of a b)) (Err (WrongWord 1))) (Err (WrongWord 0))
+affine_read m a b = where_below m (affine_of a b) 0 (a ∷ b ∷ [])
 
 abbrev pub affine : ℕ → Meaning AffineElement
 affine m = record {

@@ -1,24 +1,18 @@
 -- The laws of `affine`.
-use Rattle.std.specs.Prelude.{◌≡◌, ℕ, ◌+◌, ◌*◌, ◌/◌, ◌%◌, ◌^◌, ◌<◌, ◌≤◌, true, List, [], ◌∷◌, length, Ok, nat_lt, slice_index, refl}
-use Rattle.std.proofs.Common.{sym, ap, ap₂, ◌∙◌, mod-lt, mod-eq_of_lt, mul-add, mul_left_comm, mul_comm, mul_assoc, mul-one, one-mul, mul-zero, add-zero, zero-add, add_assoc, arith}
-use Rattle.std.proofs.Math.Nat.{mod-add-mod, add-mod-mod, mod-add-div, add-mul-mod_self_left}
-use Rattle.std.proofs.lemmas.Bool.{lt-ltb, ltb-true, and_parts, and_from, cond_both}
+use Rattle.std.specs.Prelude.{◌≡◌, ℕ, ◌+◌, ◌*◌, ◌%◌, ◌^◌, ◌<◌, ◌≤◌, true, List, [], ◌∷◌, Ok, nat_lt, slice_index, refl}
+use Rattle.std.proofs.Common.{sym, ap, ap₂, ◌∙◌, mod-lt, mod-eq_of_lt, mul-add, mul_comm, mul_assoc, mul-one, one-mul, mul-zero, add-zero, zero-add, add_assoc, arith}
+use Rattle.std.proofs.Math.Nat.{mod-add-mod, add-mod-mod}
+use Rattle.std.proofs.lemmas.Nat.{mul-mod_second}
+use Rattle.std.proofs.lemmas.Bool.{lt-ltb, ltb-true, and_parts, and_from}
 use Rattle.std.specs.List.{AllByRecursion}
 use Rattle.operation.specs.Meaning.{Monoid, Packing}
 use Rattle.operation.specs.Affine.{affine, affine_of, affine_proper, affine_join, affine_read}
 use Rattle.operation.specs.declared.affine.AffineElement.{AffineElement}
-use Rattle.operation.specs.Reading.{Fair, packing_from}
-
--- a factor may be reduced before or after the product
-mul_mod : (a b m : ℕ) → (a * (b % m)) % m ≡ (a * b) % m
-mul_mod a b m =
-    sym (ap (λ n. (a * n) % m) (sym (mod-add-div b m))
-    ∙ ap (λ n. n % m) (mul-add a (b % m) (m * (b / m)) ∙ ap (λ n. a * (b % m) + n) (mul_left_comm a m (b / m)))
-    ∙ add-mul-mod_self_left (a * (b % m)) m (a * (b / m)))
+use Rattle.operation.specs.Reading.{Fair, below_fair, words_from, packing_from}
 
 mul_mod_add : (a b c m : ℕ) → (a * (b % m) + c) % m ≡ (a * b + c) % m
 mul_mod_add a b c m =
-    sym (mod-add-mod (a * (b % m)) m c) ∙ ap (λ n. (n + c) % m) (mul_mod a b m) ∙ mod-add-mod (a * b) m c
+    sym (mod-add-mod (a * (b % m)) m c) ∙ ap (λ n. (n + c) % m) (mul-mod_second a b m) ∙ mod-add-mod (a * b) m c
 
 module _ (m : ℕ) (low : 2 ≤ m) (high : m ≤ 2147483647) where
   parts : (x : AffineElement) → affine_proper m x ≡ true → (x.a < m) × (x.b < m)
@@ -32,9 +26,9 @@ module _ (m : ℕ) (low : 2 ≤ m) (high : m ≤ 2147483647) where
 
   assoc_a : (a c e : ℕ) → (e * ((c * a) % m)) % m ≡ (((e * c) % m) * a) % m
   assoc_a a c e =
-      mul_mod e (c * a) m
+      mul-mod_second e (c * a) m
       ∙ ap (λ n. n % m) (sym (mul_assoc e c a) ∙ mul_comm (e * c) a)
-      ∙ sym (mul_mod a (e * c) m)
+      ∙ sym (mul-mod_second a (e * c) m)
       ∙ ap (λ n. n % m) (mul_comm a ((e * c) % m))
 
   assoc_b : (b c d e f : ℕ) → (e * ((c * b + d) % m) + f) % m ≡ (((e * c) % m) * b + (e * d + f) % m) % m
@@ -65,15 +59,12 @@ module _ (m : ℕ) (low : 2 ≤ m) (high : m ≤ 2147483647) where
 
   read_fair : (a b : ℕ) → Fair (affine m) (a ∷ b ∷ []) (affine_read m a b)
   read_fair a b =
-      cond_both (nat_lt a m) _ _ (Fair (affine m) (a ∷ b ∷ []))
-      (λ p. cond_both (nat_lt b m) _ _ (Fair (affine m) (a ∷ b ∷ [])) (λ q. (and_from _ _ p q, refl)) (λ _. omega arith))
-      (λ _. omega arith)
+      below_fair m (a ∷ b ∷ []) (affine_of a b) 0 (Fair (affine m) (a ∷ b ∷ []))
+      (λ p. (below a b p.0 p.1.0, refl))
+      (λ i k. k)
 
-  fair : (ws : List ℕ) → length ws ≡ 2 → Fair (affine m) ws (affine_read m (slice_index ws 0) (slice_index ws 1))
-  fair [] h = absurd (omega arith)
-  fair (a ∷ []) h = absurd (omega arith)
-  fair (a ∷ b ∷ []) h = read_fair a b
-  fair (a ∷ b ∷ c ∷ more) h = absurd (omega arith)
+  fair : (ws : List ℕ) → Fair (affine m) (words_from ws 0 2) (affine_read m (slice_index ws 0) (slice_index ws 1))
+  fair ws = read_fair (slice_index ws 0) (slice_index ws 1)
 
   read_back : (x : AffineElement) → affine_proper m x ≡ true → affine_read m x.a x.b ≡ Ok x
   read_back x h = let k = and_parts (nat_lt x.a m) (nat_lt x.b m) h in simp (k.0, k.1)

@@ -1,6 +1,7 @@
 -- The least of signed values, each with its place.
-use Rattle.std.specs.Prelude.{ℕ, suc, ◌+◌, ◌-◌, ◌^◌, Bool, true, cond, not, ◌&&◌, ◌||◌, List, [], ◌∷◌, ℤ, pos, negsuc, ◌-ℤ◌, Some, None, Ok, Err, Option, Result, ◌==◌, int_le, int_lt, nat_le, nat_lt, slice_index}
-use Rattle.operation.specs.Meaning.{Meaning, sized}
+use Rattle.std.specs.Prelude.{ℕ, suc, ◌+◌, ◌-◌, ◌^◌, Bool, cond, not, ◌&&◌, ◌||◌, List, [], ◌∷◌, ℤ, pos, negsuc, ◌-ℤ◌, Some, None, Ok, Err, Option, Result, ◌==◌, int_le, int_lt, nat_le, nat_lt, slice_index}
+use Rattle.operation.specs.Meaning.{Meaning, sized, where_below}
+use Rattle.operation.specs.Optional.{join_present, proper_present}
 use Rattle.operation.specs.declared.fault.BlockFault.{BlockFault}
 use Rattle.operation.specs.declared.fault.BlockFault.TheVariants.{WrongWord}
 use Rattle.operation.specs.declared.least.Placed.{Placed}
@@ -12,15 +13,19 @@ placed_at v p = record { value = v; place = p }
 abbrev pub first : Placed → Placed → Bool
 first x y = int_lt x.value y.value || (not (int_lt y.value x.value) && nat_le x.place y.place)
 
+-- the one that comes first
+abbrev pub first_of : Placed → Placed → Placed
+first_of x y = cond (first x y) x y
+
 abbrev pub least_join : Option Placed → Option Placed → Option Placed
-least_join None y = y
-least_join (Some x) None = Some x
-least_join (Some x) (Some y) = cond (first x y) (Some x) (Some y)
+least_join = join_present first_of
 
 -- a value is a signed 32-bit number and a place a 32-bit word (those that code holds always are)
+abbrev pub placed_proper : Placed → Bool
+placed_proper x = int_le (negsuc 2147483647) x.value && (int_le x.value (pos 2147483647) && nat_lt x.place (2 ^ 32))
+
 abbrev pub least_proper : Option Placed → Bool
-least_proper None = true
-least_proper (Some x) = int_le (negsuc 2147483647) x.value && (int_le x.value (pos 2147483647) && nat_lt x.place (2 ^ 32))
+least_proper = proper_present placed_proper
 
 -- a signed value as a word: the value plus 2,147,483,648
 abbrev pub biased : ℤ → ℕ
@@ -37,7 +42,7 @@ least_pack (Some x) = 1 ∷ biased x.value ∷ x.place ∷ []
 
 -- none has zeros behind its mark: the wrong word is the first other one
 abbrev pub none_read : (v p : ℕ) → Result (Option Placed) BlockFault
-none_read v p = cond (v == 0) (cond (p == 0) (Ok None) (Err (WrongWord 2))) (Err (WrongWord 1))
+none_read v p = where_below 1 None 1 (v ∷ p ∷ [])
 
 -- (what is no 32-bit word stands in no block)
 abbrev pub some_read : (v p : ℕ) → Result (Option Placed) BlockFault

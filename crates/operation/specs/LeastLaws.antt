@@ -5,10 +5,11 @@ use Rattle.std.proofs.lemmas.Bool.Decides.{nat_tests}
 use Rattle.std.proofs.lemmas.Int.{ints}
 use Rattle.std.proofs.lemmas.Bool.{cases_lt, cond_both, eqb-true, ltb-true, leb-true, lt-ltb, and_parts}
 use Rattle.std.specs.List.{AllByRecursion}
+use Rattle.operation.specs.Optional.{present_assoc, present_unit, present_proper}
 use Rattle.operation.specs.Meaning.{Monoid, Packing}
-use Rattle.operation.specs.Least.{least, placed_at, first, least_proper, least_join, least_pack, least_read, none_read, some_read, biased, unbiased}
+use Rattle.operation.specs.Least.{least, placed_at, first, first_of, placed_proper, least_proper, least_pack, least_read, none_read, some_read, biased, unbiased}
 use Rattle.operation.specs.declared.least.Placed.{Placed}
-use Rattle.operation.specs.Reading.{Fair, packing_from}
+use Rattle.operation.specs.Reading.{Fair, below_fair, below-one, words_from, packing_from}
 
 first_trans : (x y z : Placed) → first x y ≡ true → first y z ≡ true → first x z ≡ true
 first_trans x y z p q = grind (arith, ints, nat_tests)
@@ -16,29 +17,17 @@ first_trans x y z p q = grind (arith, ints, nat_tests)
 last_trans : (x y z : Placed) → first x y ≡ false → first y z ≡ false → first x z ≡ false
 last_trans x y z p q = grind (arith, ints, nat_tests)
 
-assoc_some : (x y z : Placed) (a b : Bool) → first x y ≡ a → first y z ≡ b
-    → least_join (least_join (Some x) (Some y)) (Some z) ≡ least_join (Some x) (least_join (Some y) (Some z))
-assoc_some x y z true true p q = let t = first_trans x y z p q in simp (p, q, t)
-assoc_some x y z true false p q = simp (p, q)
-assoc_some x y z false true p q = simp (p, q)
-assoc_some x y z false false p q = let t = last_trans x y z p q in simp (p, q, t)
+assoc : (x y z : Placed) → first_of (first_of x y) z ≡ first_of x (first_of y z)
+assoc x y z = go (first x y) (first y z) refl refl
+  where
+    go : (a b : Bool) → first x y ≡ a → first y z ≡ b → first_of (first_of x y) z ≡ first_of x (first_of y z)
+    go true true p q = let t = first_trans x y z p q in simp (p, q, t)
+    go true false p q = simp (p, q)
+    go false true p q = simp (p, q)
+    go false false p q = let t = last_trans x y z p q in simp (p, q, t)
 
-assoc : (x y z : Option Placed) → least_join (least_join x y) z ≡ least_join x (least_join y z)
-assoc None y z = refl
-assoc (Some x) None z = refl
-assoc (Some x) (Some y) None =
-    cond_both (first x y) (Some x) (Some y) (λ r. least_join r None ≡ r) (λ _. refl) (λ _. refl)
-assoc (Some x) (Some y) (Some z) = assoc_some x y z (first x y) (first y z) refl refl
-
-unit_right : (x : Option Placed) → least_join x None ≡ x
-unit_right None = refl
-unit_right (Some x) = refl
-
-join_proper : (x y : Option Placed) → least_proper x ≡ true → least_proper y ≡ true → least_proper (least_join x y) ≡ true
-join_proper None y hx hy = hy
-join_proper (Some x) None hx hy = hx
-join_proper (Some x) (Some y) hx hy =
-    cond_both (first x y) (Some x) (Some y) (λ r. least_proper r ≡ true) (λ _. hx) (λ _. hy)
+first_kept : (x y : Placed) → placed_proper x ≡ true → placed_proper y ≡ true → placed_proper (first_of x y) ≡ true
+first_kept x y hx hy = cond_both (first x y) x y (λ r. placed_proper r ≡ true) (λ _. hx) (λ _. hy)
 
 -- Words of values
 
@@ -76,19 +65,23 @@ long : (x : Option Placed) → length (least_pack x) ≡ 3
 long None = refl
 long (Some x) = refl
 
+-- what the test of a proper element says
+bounds : (x : Placed) → placed_proper x ≡ true
+    → (int_le (negsuc 2147483647) x.value ≡ true) × (int_le x.value (pos 2147483647) ≡ true) × (nat_lt x.place (2 ^ 32) ≡ true)
+bounds x h =
+    let k = and_parts (int_le (negsuc 2147483647) x.value) (int_le x.value (pos 2147483647) && nat_lt x.place (2 ^ 32)) h in
+    let l = and_parts (int_le x.value (pos 2147483647)) (nat_lt x.place (2 ^ 32)) k.1 in
+    (k.0, l.0, l.1)
+
 words : (x : Option Placed) → least_proper x ≡ true → AllByRecursion (λ w. w < 2 ^ 32) (least_pack x)
 words None h = (omega arith, (omega arith, (omega arith, tt)))
-words (Some x) h =
-    let k = and_parts (int_le (negsuc 2147483647) x.value) (int_le x.value (pos 2147483647) && nat_lt x.place (2 ^ 32)) h in
-    let l = and_parts (int_le x.value (pos 2147483647)) (nat_lt x.place (2 ^ 32)) k.1 in
-    (omega arith, (biased_small x.value l.0, (ltb-true _ _ l.1, tt)))
+words (Some x) h = let k = bounds x h in (omega arith, (biased_small x.value k.1, (ltb-true _ _ k.2, tt)))
 
-some_back : (x : Placed) → least_proper (Some x) ≡ true → some_read (biased x.value) x.place ≡ Ok (Some x)
+some_back : (x : Placed) → placed_proper x ≡ true → some_read (biased x.value) x.place ≡ Ok (Some x)
 some_back x h =
-    let k = and_parts (int_le (negsuc 2147483647) x.value) (int_le x.value (pos 2147483647) && nat_lt x.place (2 ^ 32)) h in
-    let l = and_parts (int_le x.value (pos 2147483647)) (nat_lt x.place (2 ^ 32)) k.1 in
-    let v = lt-ltb _ _ (biased_small x.value l.0) in
-    simp (v, l.1) (ap (λ z. Ok (Some (placed_at z x.place))) (biased_back x.value k.0))
+    let k = bounds x h in
+    let v = lt-ltb _ _ (biased_small x.value k.1) in
+    simp (v, k.2) (ap (λ z. Ok (Some (placed_at z x.place))) (biased_back x.value k.0))
 
 read_back : (x : Option Placed) → least_proper x ≡ true
     → least_read (slice_index (least_pack x) 0) (slice_index (least_pack x) 1) (slice_index (least_pack x) 2) ≡ Ok x
@@ -102,11 +95,9 @@ read_fair m v p =
   where
     none_fair : m ≡ 0 → Fair least (m ∷ v ∷ p ∷ []) (none_read v p)
     none_fair h =
-        cond_both (v == 0) _ _ (Fair least (m ∷ v ∷ p ∷ []))
-        (λ q. cond_both (p == 0) _ _ (Fair least (m ∷ v ∷ p ∷ []))
-        (λ r. (refl, λ i. h i ∷ eqb-true v 0 q i ∷ eqb-true p 0 r i ∷ []))
-        (λ _. omega arith))
-        (λ _. omega arith)
+        below_fair 1 (v ∷ p ∷ []) None 1 (Fair least (m ∷ v ∷ p ∷ []))
+        (λ q. (refl, λ i. h i ∷ below-one v q.0 i ∷ below-one p q.1.0 i ∷ []))
+        (λ i k. k)
 
     some_fair : m ≡ 1 → Fair least (m ∷ v ∷ p ∷ []) (some_read v p)
     some_fair h =
@@ -115,20 +106,16 @@ read_fair m v p =
         (unbiased_proper v p (ltb-true _ _ k.0) (ltb-true _ _ k.1), λ i. h i ∷ sym (unbiased_back v) i ∷ p ∷ []))
         (λ _. omega arith)
 
-fair : (ws : List ℕ) → length ws ≡ 3 → Fair least ws (least_read (slice_index ws 0) (slice_index ws 1) (slice_index ws 2))
-fair [] h = absurd (omega arith)
-fair (m ∷ []) h = absurd (omega arith)
-fair (m ∷ v ∷ []) h = absurd (omega arith)
-fair (m ∷ v ∷ p ∷ []) h = read_fair m v p
-fair (m ∷ v ∷ p ∷ q ∷ more) h = absurd (omega arith)
+fair : (ws : List ℕ) → Fair least (words_from ws 0 3) (least_read (slice_index ws 0) (slice_index ws 1) (slice_index ws 2))
+fair ws = read_fair (slice_index ws 0) (slice_index ws 1) (slice_index ws 2)
 
 pub least_monoid : Monoid least
 least_monoid = record {
   unit_proper = refl;
-  join_proper = join_proper;
-  assoc = λ x y z _ _ _. assoc x y z;
+  join_proper = present_proper first_of placed_proper first_kept;
+  assoc = λ x y z _ _ _. present_assoc first_of assoc x y z;
   unit_left = λ x _. refl;
-  unit_right = λ x _. unit_right x;
+  unit_right = λ x _. present_unit first_of x;
 }
 
 pub least_packing : Packing least

@@ -1,5 +1,6 @@
 pub mod Meaning
 pub mod Affine
+pub mod Optional
 pub mod Text
 pub mod Runs
 pub mod Least

@@ -1,5 +1,5 @@
 -- What an operation means, and the laws that every operation keeps.
-use Rattle.std.specs.Prelude.{◌≡◌, ℕ, ◌^◌, ◌<◌, Bool, true, cond, List, ◌++◌, length, drop, Ok, Err, Result, ◌==◌, ◌≢◌, nat_le}
+use Rattle.std.specs.Prelude.{◌≡◌, ℕ, ◌+◌, ◌^◌, ◌<◌, Bool, true, cond, List, [], ◌∷◌, ◌++◌, length, drop, Ok, Err, Result, ◌==◌, ◌≢◌, nat_le, nat_lt}
 use Rattle.std.specs.List.{AllByRecursion}
 use Rattle.operation.specs.declared.fault.BlockFault.{BlockFault}
 use Rattle.operation.specs.declared.fault.BlockFault.TheVariants.{WrongLength, WrongWord}
@@ -54,6 +54,11 @@ pub record Packing {E : Type 0} (m : Meaning E) : Type 0 where
 -- a block that has not the width is refused for that, and any other is read
 abbrev pub sized : {E : Type 0} → ℕ → (List ℕ → Result E BlockFault) → List ℕ → Result E BlockFault
 sized width read block = cond (length block == width) (read block) (Err WrongLength)
+
+-- x, where each word of a block is below the bound: the wrong word is the first other one, of places that begin at `place`
+abbrev pub where_below : {E : Type 0} → (bound : ℕ) → E → (place : ℕ) → List ℕ → Result E BlockFault
+where_below bound x place [] = Ok x
+where_below bound x place (w ∷ ws) = cond (nat_lt w bound) (where_below bound x (place + 1) ws) (Err (WrongWord place))
 
 -- a block at the front of lent words, the rest unchanged; too few words stay as they were
 unfoldable pub written : List ℕ → List ℕ → List ℕ

@@ -1,11 +1,39 @@
 -- Blocks stand for the proper elements where reading the words of a block is fair.
-use Rattle.std.specs.Prelude.{◌≡◌, ℕ, ◌^◌, ◌<◌, true, List, length, Ok, Err, Result, ◌==◌, ◌≢◌}
-use Rattle.std.proofs.Common.{sym, subst, ◌∙◌, inl, inr, arith}
-use Rattle.std.proofs.lemmas.Bool.{cases_eq, eq-eqb, ne_eqb, cond-true, cond-false}
+use Rattle.std.specs.Prelude.{◌≡◌, ℕ, zero, suc, ◌+◌, ◌^◌, ◌<◌, true, List, [], ◌∷◌, length, Ok, Err, Result, ◌==◌, ◌≢◌, nat_lt, slice_index, refl}
+use Rattle.std.proofs.Common.{sym, ap, subst, ◌∙◌, inl, inr, arith}
+use Rattle.std.proofs.lemmas.Bool.{cases_eq, eq-eqb, ne_eqb, cond-true, cond-false, cond_both, ltb-true}
 use Rattle.std.specs.List.{AllByRecursion}
-use Rattle.operation.specs.Meaning.{Meaning, Packing, sized}
+use Rattle.operation.specs.Meaning.{Meaning, Packing, sized, where_below}
 use Rattle.operation.specs.declared.fault.BlockFault.{BlockFault}
 use Rattle.operation.specs.declared.fault.BlockFault.TheVariants.{WrongLength, WrongWord}
+
+-- what holds of x where each word is below the bound, and of each refusal of a word, holds of what is read
+pub below_fair : {E : Type 0} (bound : ℕ) (ws : List ℕ) (x : E) (place : ℕ) (P : Result E BlockFault → Type 0)
+    → (AllByRecursion (λ w. w < bound) ws → P (Ok x)) → ((i : ℕ) → i < place + length ws → P (Err (WrongWord i)))
+    → P (where_below bound x place ws)
+below_fair bound [] x place P ok wrong = ok tt
+below_fair bound (w ∷ ws) x place P ok wrong =
+    cond_both (nat_lt w bound) (where_below bound x (place + 1) ws) (Err (WrongWord place)) P
+    (λ t. below_fair bound ws x (place + 1) P (λ all. ok (ltb-true w bound t, all)) (λ i h. wrong i (omega arith)))
+    (λ _. wrong place (omega arith))
+
+-- the words of a list, by their places
+abbrev pub words_from : List ℕ → (place n : ℕ) → List ℕ
+words_from ws place zero = []
+words_from ws place (suc n) = slice_index ws place ∷ words_from ws (suc place) n
+
+words_at : (ws : List ℕ) (n : ℕ) → length ws ≡ n → ws ≡ words_from ws 0 n
+words_at [] zero h = refl
+words_at [] (suc n) h = absurd (omega arith)
+words_at (w ∷ ws) zero h = absurd (omega arith)
+words_at (w ∷ ws) (suc n) h = ap (λ rest. w ∷ rest) (words_at ws n (omega arith) ∙ behind w ws 0 n)
+  where
+    behind : (w : ℕ) (ws : List ℕ) (place n : ℕ) → words_from ws place n ≡ words_from (w ∷ ws) (suc place) n
+    behind w ws place zero = refl
+    behind w ws place (suc n) = ap (λ rest. slice_index ws place ∷ rest) (behind w ws (suc place) n)
+
+pub below-one : (w : ℕ) → w < 1 → w ≡ 0
+below-one w h = omega arith
 
 module _ {E : Type 0} (m : Meaning E) where
   -- an element that is read is proper and has this block, and a refusal names one of the words
@@ -25,7 +53,10 @@ module _ {E : Type 0} (m : Meaning E) where
     sized_refused : (b : List ℕ) → (length b ≢ m.width) → m.unpack b ≡ Err WrongLength
     sized_refused b h = is b ∙ cond-false (length b == m.width) (read b) (Err WrongLength) (ne_eqb _ _ h)
 
-    module _ (fair : (b : List ℕ) → length b ≡ m.width → Fair b (read b)) where
+    module _ (fair_words : (b : List ℕ) → Fair (words_from b 0 m.width) (read b)) where
+      fair : (b : List ℕ) → length b ≡ m.width → Fair b (read b)
+      fair b h = subst (λ block. Fair block (read b)) (sym (words_at b m.width h)) (fair_words b)
+
       fair_ok : (b : List ℕ) (x : E) → m.unpack b ≡ Ok x → Fair b (Ok x)
       fair_ok b x e =
           elim (cases_eq (length b) m.width) [

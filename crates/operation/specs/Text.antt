@@ -1,11 +1,10 @@
 -- Counts of a text that can be joined: bytes, lines and words.
-use Rattle.std.specs.Prelude.{◌≡◌, ℕ, ◌+◌, ◌-◌, ◌*◌, ◌/◌, ◌%◌, ◌^◌, Bool, true, false, cond, not, ◌&&◌, ◌||◌, List, [], ◌∷◌, ◌++◌, length, Ok, Err, Result, ◌==◌, nat_le, nat_lt, slice_index}
-use Rattle.operation.specs.Meaning.{Meaning, sized}
+use Rattle.std.specs.Prelude.{◌≡◌, ℕ, ◌+◌, ◌-◌, ◌*◌, ◌/◌, ◌%◌, ◌^◌, Bool, false, cond, not, ◌&&◌, ◌||◌, List, [], ◌∷◌, ◌++◌, length, Some, None, Ok, Err, Option, Result, ◌==◌, nat_le, nat_lt, slice_index, count_by}
+use Rattle.operation.specs.Meaning.{Meaning, sized, where_below}
+use Rattle.operation.specs.Optional.{join_present, proper_present}
 use Rattle.operation.specs.declared.fault.BlockFault.{BlockFault}
 use Rattle.operation.specs.declared.fault.BlockFault.TheVariants.{WrongWord}
 use Rattle.operation.specs.declared.text.Counts.{Counts}
-use Rattle.operation.specs.declared.text.TextElement.{TextElement}
-use Rattle.operation.specs.declared.text.TextElement.TheVariants.{Empty, Filled}
 
 -- What is counted of a text, as its bytes
 
@@ -19,8 +18,7 @@ in_word b = not (is_space b)
 
 -- each byte 10 counts a line
 abbrev pub line_count : List ℕ → ℕ
-line_count [] = 0
-line_count (b ∷ bs) = cond (b == 10) 1 0 + line_count bs
+line_count bs = count_by (λ b. b == 10) bs
 
 -- how many words start in a text, where the flag tells whether the byte before it is part of a word
 abbrev pub word_starts : Bool → List ℕ → ℕ
@@ -39,10 +37,10 @@ abbrev pub counts_of : (b l w : ℕ) → (left right : Bool) → Counts
 counts_of b l w left right = record { bytes = b; lines = l; words = w; left = left; right = right }
 
 -- the element of a text: the counts modulo 2^32, and whether its first and its last byte are part of a word
-abbrev pub measured : List ℕ → TextElement
-measured [] = Empty
+abbrev pub measured : List ℕ → Option Counts
+measured [] = None
 measured (b ∷ bs) =
-    Filled (counts_of (length (b ∷ bs) % 2 ^ 32) (line_count (b ∷ bs) % 2 ^ 32) (word_count (b ∷ bs) % 2 ^ 32) (in_word b) (in_word (last_byte b bs)))
+    Some (counts_of (length (b ∷ bs) % 2 ^ 32) (line_count (b ∷ bs) % 2 ^ 32) (word_count (b ∷ bs) % 2 ^ 32) (in_word b) (in_word (last_byte b bs)))
 
 -- The operation
 
@@ -57,45 +55,42 @@ counts_join x y =
     ((x.words + y.words + (2 ^ 32 - lost_word x.right y.left)) % 2 ^ 32) x.left y.right
 
 -- joining with the empty text gives the other
-abbrev pub text_join : TextElement → TextElement → TextElement
-text_join Empty y = y
-text_join (Filled x) Empty = Filled x
-text_join (Filled x) (Filled y) = Filled (counts_join x y)
+abbrev pub text_join : Option Counts → Option Counts → Option Counts
+text_join = join_present counts_join
 
 -- counts are 32-bit words (those that code holds always are)
 abbrev pub counts_proper : Counts → Bool
 counts_proper x = nat_lt x.bytes (2 ^ 32) && (nat_lt x.lines (2 ^ 32) && nat_lt x.words (2 ^ 32))
 
-abbrev pub text_proper : TextElement → Bool
-text_proper Empty = true
-text_proper (Filled x) = counts_proper x
+abbrev pub text_proper : Option Counts → Bool
+text_proper = proper_present counts_proper
 
 -- the last word of a block, which is 0 for the empty text
 abbrev pub edge_of : Counts → ℕ
 edge_of x = 4 + 2 * cond x.left 1 0 + cond x.right 1 0
 
-abbrev pub text_pack : TextElement → List ℕ
-text_pack Empty = 0 ∷ 0 ∷ 0 ∷ 0 ∷ []
-text_pack (Filled x) = x.bytes ∷ x.lines ∷ x.words ∷ edge_of x ∷ []
+abbrev pub text_pack : Option Counts → List ℕ
+text_pack None = 0 ∷ 0 ∷ 0 ∷ 0 ∷ []
+text_pack (Some x) = x.bytes ∷ x.lines ∷ x.words ∷ edge_of x ∷ []
 
 -- the empty text has zero counts: the wrong word is the first other one
-abbrev pub empty_read : (b l w : ℕ) → Result TextElement BlockFault
-empty_read b l w = cond (b == 0) (cond (l == 0) (cond (w == 0) (Ok Empty) (Err (WrongWord 2))) (Err (WrongWord 1))) (Err (WrongWord 0))
+abbrev pub empty_read : (b l w : ℕ) → Result (Option Counts) BlockFault
+empty_read b l w = where_below 1 None 0 (b ∷ l ∷ w ∷ [])
 
 -- (what is no 32-bit word stands in no block)
-abbrev pub filled_read : Counts → Result TextElement BlockFault
-filled_read x = cond (counts_proper x) (Ok (Filled x)) (Err (WrongWord 0))
+abbrev pub filled_read : Counts → Result (Option Counts) BlockFault
+filled_read x = cond (counts_proper x) (Ok (Some x)) (Err (WrongWord 0))
 
 -- edges are 0 and 4 to 7
-abbrev pub text_read : (b l w e : ℕ) → Result TextElement BlockFault
+abbrev pub text_read : (b l w e : ℕ) → Result (Option Counts) BlockFault
 text_read b l w e =
     cond (e == 0) (empty_read b l w)
     (cond (nat_le 4 e && nat_le e 7) (filled_read (counts_of b l w (e / 2 % 2 == 1) (e % 2 == 1))) (Err (WrongWord 3)))
 
-abbrev pub text : Meaning TextElement
+abbrev pub text : Meaning (Option Counts)
 text = record {
   proper = text_proper;
-  unit = Empty;
+  unit = None;
   join = text_join;
   width = 4;
   pack = text_pack;

@@ -5,7 +5,7 @@ ghost use Rattle.operation.specs.AffineLaws.{affine_monoid, affine_packing};
 ghost use Rattle.std.proofs.Common.{rules, arith};
 
 use super::Operation;
-use super::block::write_front;
+use super::block::{check_below, words_of, write_front};
 use super::fault::{BlockFault, ModulusFault};
 
 // The map y → a × y + b.
@@ -16,6 +16,8 @@ pub struct AffineElement {
 }
 
 const WIDTH: usize = 2;
+
+const MIN_MODULUS: u32 = 2;
 
 const MAX_MODULUS: u32 = 2_147_483_647;
 
@@ -30,7 +32,7 @@ impl Affine {
     pub fn new(modulus: u32) -> Result<Affine, ModulusFault>
         ensures { MatchResult result (λ o. accepted_modulus modulus ≡ Ok o.modulus) (λ e. accepted_modulus modulus ≡ Err e) }
     {
-        if modulus < 2 || modulus > MAX_MODULUS {
+        if !(MIN_MODULUS..=MAX_MODULUS).contains(&modulus) {
             return Err(ModulusFault::OutOfRange);
         }
         Ok(Affine { modulus })
@@ -63,9 +65,9 @@ impl Operation for Affine {
     }
 
     fn join(&self, x: AffineElement, y: AffineElement) -> AffineElement {
-        let m = self.modulus as u64;
-        let a = y.a as u64 * x.a as u64 % m;
-        let b = (y.a as u64 * x.b as u64 + y.b as u64) % m;
+        let m = u64::from(self.modulus);
+        let a = u64::from(y.a) * u64::from(x.a) % m;
+        let b = (u64::from(y.a) * u64::from(x.b) + u64::from(y.b)) % m;
         AffineElement {
             a: a as u32,
             b: b as u32,
@@ -77,16 +79,8 @@ impl Operation for Affine {
     }
 
     fn unpack(&self, block: &[u32]) -> Result<AffineElement, BlockFault> {
-        if block.len() != WIDTH {
-            return Err(BlockFault::WrongLength);
-        }
-        let (a, b) = (block[0], block[1]);
-        if a >= self.modulus {
-            return Err(BlockFault::WrongWord(0));
-        }
-        if b >= self.modulus {
-            return Err(BlockFault::WrongWord(1));
-        }
+        let [a, b] = words_of::<WIDTH>(block)?;
+        check_below(self.modulus, block)?;
         Ok(AffineElement { a, b })
     }
 }

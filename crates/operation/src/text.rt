@@ -1,12 +1,12 @@
 // Bytes, lines and words of a text, counted in parts that can be joined.
-ghost use Rattle.std.specs.Prelude.{◌≡◌, [], ◌∷◌};
-ghost use Rattle.operation.specs.Text.{text as text_meaning, measured, counts_join, edge_of, empty_read, MeasureJoins};
+ghost use Rattle.std.specs.Prelude.{◌≡◌, [], ◌∷◌, None, fold};
+ghost use Rattle.operation.specs.Text.{text as text_meaning, measured, counts_join, text_join, edge_of, MeasureJoins};
 ghost use Rattle.operation.specs.Runs.{WordsAreRuns};
 ghost use Rattle.operation.specs.TextLaws.{text_monoid, text_packing};
 ghost use Rattle.std.proofs.Common.{rules};
 
 use super::Operation;
-use super::block::write_front;
+use super::block::{check_below, words_of, write_front};
 use super::fault::BlockFault;
 
 // The counts of a text that is not empty, modulo 2^32.
@@ -26,7 +26,7 @@ impl Counts {
     fn followed_by(self, next: Counts) -> Counts
         ensures { result ≡ counts_join self next }
     {
-        let lost = if self.right && next.left { 1 } else { 0 };
+        let lost = u32::from(self.right && next.left);
         Counts {
             bytes: self.bytes.wrapping_add(next.bytes),
             lines: self.lines.wrapping_add(next.lines),
@@ -42,13 +42,6 @@ impl Counts {
     {
         4 + 2 * u32::from(self.left) + u32::from(self.right)
     }
-}
-
-// The element of a text.
-#[derive(Clone, Copy, PartialEq, Eq, Debug)]
-pub enum TextElement {
-    Empty,
-    Filled(Counts),
 }
 
 const WIDTH: usize = 4;
@@ -83,48 +76,37 @@ pub struct Text;
 
 impl Text {
     // The element of a text. The element of two texts, one after the other, is the join of their elements.
-    pub fn measure(bytes: &[u8]) -> TextElement
+    pub fn measure(bytes: &[u8]) -> Option<Counts>
         ensures value { result ≡ measured bytes.now }
         ensures joins { MeasureJoins }
         ensures words_are_runs { WordsAreRuns }
     {
-        let mut sum = Text.unit();
-        for b in bytes {
-            sum = Text.join(sum, measure_byte(*b));
-        }
-        sum
+        join_bytes(bytes)
     }
 }
 
-// The element of a text of one byte.
-fn measure_byte(b: u8) -> TextElement
-    ensures { result ≡ measured (b ∷ []) }
+// The join of the elements of single bytes.
+fn join_bytes(bytes: &[u8]) -> Option<Counts>
+    ensures { result ≡ fold (λ sum byte. text_join sum (measured (byte ∷ []))) None bytes.now }
 {
-    TextElement::Filled(match b {
+    bytes
+        .iter()
+        .fold(None, |sum, byte| Text.join(sum, measure_byte(*byte)))
+}
+
+// The element of a text of one byte.
+fn measure_byte(byte: u8) -> Option<Counts>
+    ensures { result ≡ measured (byte ∷ []) }
+{
+    Some(match byte {
         10 => NEWLINE,
         9..=13 | 32 => SPACE,
         _ => LETTER,
     })
 }
 
-// The element of a block whose edge is 0, from its counts.
-fn read_empty(bytes: u32, lines: u32, words: u32) -> Result<TextElement, BlockFault>
-    ensures { result ≡ empty_read bytes lines words }
-{
-    if bytes != 0 {
-        return Err(BlockFault::WrongWord(0));
-    }
-    if lines != 0 {
-        return Err(BlockFault::WrongWord(1));
-    }
-    if words != 0 {
-        return Err(BlockFault::WrongWord(2));
-    }
-    Ok(TextElement::Empty)
-}
-
 impl Operation for Text {
-    type Element = TextElement;
+    type Element = Option<Counts>;
 
     ghost meaning = { λ _. text_meaning };
 
@@ -138,35 +120,33 @@ impl Operation for Text {
         WIDTH
     }
 
-    fn unit(&self) -> TextElement {
-        TextElement::Empty
+    fn unit(&self) -> Option<Counts> {
+        None
     }
 
-    fn join(&self, x: TextElement, y: TextElement) -> TextElement {
-        let TextElement::Filled(left) = x else {
-            return y;
-        };
-        let TextElement::Filled(right) = y else {
-            return x;
-        };
-        TextElement::Filled(left.followed_by(right))
-    }
-
-    fn pack(&self, x: TextElement, words: &mut [u32]) {
-        let TextElement::Filled(c) = x else {
-            return write_front(&[0, 0, 0, 0], words);
-        };
-        write_front(&[c.bytes, c.lines, c.words, c.edge()], words)
-    }
-
-    fn unpack(&self, block: &[u32]) -> Result<TextElement, BlockFault> {
-        if block.len() != WIDTH {
-            return Err(BlockFault::WrongLength);
+    fn join(&self, x: Option<Counts>, y: Option<Counts>) -> Option<Counts> {
+        match (x, y) {
+            (Some(left), Some(right)) => Some(left.followed_by(right)),
+            _ => x.or(y),
         }
-        let (bytes, lines, words, edge) = (block[0], block[1], block[2], block[3]);
+    }
+
+    fn pack(&self, x: Option<Counts>, words: &mut [u32]) {
+        match x {
+            Some(c) => write_front(&[c.bytes, c.lines, c.words, c.edge()], words),
+            None => write_front(&[0; WIDTH], words),
+        }
+    }
+
+    fn unpack(&self, block: &[u32]) -> Result<Option<Counts>, BlockFault> {
+        let [bytes, lines, words, edge] = words_of::<WIDTH>(block)?;
         match edge {
-            0 => read_empty(bytes, lines, words),
-            4..=7 => Ok(TextElement::Filled(Counts {
+            // The words of an empty text are zeros.
+            0 => {
+                check_below(1, block)?;
+                Ok(None)
+            }
+            4..=7 => Ok(Some(Counts {
                 bytes,
                 lines,
                 words,

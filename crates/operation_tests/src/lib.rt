@@ -7,7 +7,7 @@ mod tests {
     use operation::affine::{Affine, AffineElement};
     use operation::fault::{BlockFault, ModulusFault};
     use operation::least::{Least, Placed};
-    use operation::text::{Counts, Text, TextElement};
+    use operation::text::{Counts, Text};
     use std::test::Fail;
 
     fn map(a: u32, b: u32) -> AffineElement {
@@ -71,7 +71,7 @@ mod tests {
         assert_eq!(rt; Text.join(left, right), Text::measure(b"one two\nthree"));
         assert_eq!(rt; Text.join(right, left), Text::measure(b"o\nthreeone tw"));
         assert_eq!(rt; Text.join(Text.unit(), left), left);
-        assert_eq!(rt; Text::measure(b""), TextElement::Empty);
+        assert_eq!(rt; Text::measure(b""), None);
     }
 
     // Space is bytes 9 to 13 and 32; their neighbours 8, 14, 31 and 33 are parts of words.
@@ -84,10 +84,7 @@ mod tests {
             left: false,
             right: false,
         };
-        assert_eq!(rt;
-            Text::measure(&[9, 10, 11, 12, 13, 32]),
-            TextElement::Filled(space)
-        );
+        assert_eq!(rt; Text::measure(&[9, 10, 11, 12, 13, 32]), Some(space));
         let words = Counts {
             bytes: 7,
             lines: 0,
@@ -95,10 +92,7 @@ mod tests {
             left: true,
             right: true,
         };
-        assert_eq!(rt;
-            Text::measure(&[8, 9, 14, 13, 31, 32, 33]),
-            TextElement::Filled(words)
-        );
+        assert_eq!(rt; Text::measure(&[8, 9, 14, 13, 31, 32, 33]), Some(words));
     }
 
     #[test]
@@ -114,7 +108,7 @@ mod tests {
 
     #[test]
     fn a_text_names_its_wrong_word(rt: HostRuntime) {
-        assert_eq!(rt; Text.unpack(&[0, 0, 0, 0]), Ok(TextElement::Empty));
+        assert_eq!(rt; Text.unpack(&[0, 0, 0, 0]), Ok(None));
         assert!(rt; Text.unpack(&[1, 2, 3, 4]).is_ok());
         assert!(rt; Text.unpack(&[1, 2, 3, 7]).is_ok());
         assert_eq!(rt; Text.unpack(&[0, 0, 0, 3]), Err(BlockFault::WrongWord(3)));
