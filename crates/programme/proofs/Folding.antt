@@ -98,11 +98,11 @@ step_stands p root r k a l e =
     (stands_left (steps (fold_step p r) (levels p)) (when (last_send root r) (Send root deliver)) a
     (stands_steps (fold_step p r) (levels p) k a l (subst (λ (x : List Action). Stands x a) (sym e) (stands_first a []))))
 
-send_is : (p r k : ℕ) → r % 2 ^ k ≡ 0 → bit r k ≡ true → fold_step p r k ≡ Send (r - 2 ^ k) k ∷ []
+pub send_is : (p r k : ℕ) → r % 2 ^ k ≡ 0 → bit r k ≡ true → fold_step p r k ≡ Send (r - 2 ^ k) k ∷ []
 unfolding fold_step
 send_is p r k z b = rw (eq-eqb (r % 2 ^ k) 0 z, b)
 
-take_is : (p r k : ℕ) → r % 2 ^ k ≡ 0 → bit r k ≡ false → r + 2 ^ k < p → fold_step p r k ≡ Take (r + 2 ^ k) k After ∷ []
+pub take_is : (p r k : ℕ) → r % 2 ^ k ≡ 0 → bit r k ≡ false → r + 2 ^ k < p → fold_step p r k ≡ Take (r + 2 ^ k) k After ∷ []
 unfolding fold_step
 take_is p r k z b l = rw (eq-eqb (r % 2 ^ k) 0 z, b, lt-ltb (r + 2 ^ k) p l)
 

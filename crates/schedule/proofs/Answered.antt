@@ -1,5 +1,5 @@
 -- What holds of an action that a schedule answers.
-use Rattle.std.proofs.Common.{◌≡◌, ℕ, ◌^◌, ◌<◌, ◌≤◌, Some, None, Option, sym, refl, ap, ◌∙◌, subst, arith}
+use Rattle.std.proofs.Common.{◌≡◌, ℕ, ◌^◌, ◌<◌, ◌≤◌, Some, None, Option, sym, refl, subst, arith}
 use Rattle.std.specs.List.{slice_get}
 use Rattle.programme.specs.declared.Action.{Action}
 use Rattle.programme.specs.declared.Action.TheVariants.{Send, Take}
@@ -11,10 +11,6 @@ use Rattle.programme.proofs.Flowing.{solved_for_one}
 use Rattle.programme.proofs.Labels.{labels_fit}
 use Rattle.schedule.specs.declared.Collective.{Collective}
 use Rattle.schedule.specs.Collective.{kind_of, root_of, Allowed, actions_of, NamesOther}
-
--- x is the collective as a match has it
-pub at : (collective x : Collective) (p r i : ℕ) (o : Option Action) → collective ≡ x → o ≡ slice_get (actions_of x p r) i → o ≡ slice_get (actions_of collective p r) i
-at collective x p r i o e f = f ∙ ap (λ (y : Collective). slice_get (actions_of y p r) i) (sym e)
 
 names_other : (kind : Kind) (p root r i : ℕ) → root < p → p ≤ 2 ^ label_count → r < p → NamesOther p r (slice_get (programme kind p root r) i)
 names_other kind p root r i h few l = go (slice_get (programme kind p root r) i) refl

@@ -6,11 +6,13 @@ use Rattle.std.proofs.lemmas.Bool.{le-leb, lt-leb, eq-eqb, ne_eqb}
 use Rattle.programme.specs.declared.Action.{Action}
 use Rattle.programme.specs.declared.Action.TheVariants.{Send, Take}
 use Rattle.programme.specs.declared.Merge.{Merge}
-use Rattle.programme.specs.declared.Merge.TheVariants.{Before, After, Replace}
-use Rattle.programme.specs.Label.{hand_in, hand_back}
+use Rattle.programme.specs.declared.Merge.TheVariants.{Before, After}
+use Rattle.programme.specs.Label.{hand_back}
 use Rattle.programme.specs.Levels.{floor_log, surplus}
 use Rattle.programme.specs.Programme.{bit, flip, rank_of, exchange_step, exchange, allreduce}
-use Rattle.programme.proofs.Power.{floor_log_le}
+use Rattle.programme.proofs.Power.{floor_log_le, levels_le, levels_next}
+use Rattle.ranks.specs.Ranks.{most_ranks}
+use Rattle.schedule.specs.Part.{handed_in, for_two}
 use Rattle.schedule.proofs.Positions.{nth_left, nth_right, length_pairs, nth_first, nth_second}
 
 -- a number that exchanges, and its partner's
@@ -46,58 +48,46 @@ module _ (p n : ℕ) where
       ∙ ap (λ (o : Merge). Some (Take (rank_of p (flip n (i / 2))) (i / 2) o)) (sym f)
       ∙ sym (nth_second (exchange_step p n) send take (floor_log p) i (λ k l. pair k) l z)
 
+  -- a word has room for it
+  pub length_small : 0 < p → p ≤ most_ranks → length (exchange p n) ≤ 12
+  length_small h few = omega (arith, length-exchange, levels_next p h, levels_le (p + 1) 7 (omega arith))
+
   pub exchange_past : (i : ℕ) → 2 * floor_log p ≤ i → None ≡ slice_get (exchange p n) i
   exchange_past i l = sym (slice_get_past (exchange p n) i (omega (arith, length-exchange)))
 
+-- what each rank is
 module _ (p r : ℕ) where
-  pub outside : 2 * surplus p ≤ r → allreduce p r ≡ exchange p (r - surplus p)
+  pub outside : (n : ℕ) → n ≡ r - surplus p → 2 * surplus p ≤ r → exchange p n ≡ allreduce p r
   unfolding allreduce
-  outside l = rw (le-leb (2 * surplus p) r l)
+  outside n e l = rw (e, le-leb (2 * surplus p) r l)
 
-  pub even : r < 2 * surplus p → r % 2 ≡ 0 → allreduce p r ≡ Send (r + 1) hand_in ∷ Take (r + 1) hand_back Replace ∷ []
+  pub even : r < 2 * surplus p → r % 2 ≡ 0 → handed_in (r + 1) ≡ allreduce p r
   unfolding allreduce
   even l z = rw (lt-leb (2 * surplus p) r l, eq-eqb (r % 2) 0 z)
 
-  odd : r < 2 * surplus p → (r % 2 ≡ 0 → ⊥) → allreduce p r ≡ Take (r - 1) hand_in Before ∷ (exchange p ((r - 1) / 2) ++ (Send (r - 1) hand_back ∷ []))
+  pub odd : (n : ℕ) → n ≡ (r - 1) / 2 → r < 2 * surplus p → (r % 2 ≡ 0 → ⊥) → for_two (r - 1) p n ≡ allreduce p r
   unfolding allreduce
-  odd l z = rw (lt-leb (2 * surplus p) r l, ne_eqb (r % 2) 0 z)
+  odd n e l z = rw (e, lt-leb (2 * surplus p) r l, ne_eqb (r % 2) 0 z)
 
-  pub odd_first : (i : ℕ) → r < 2 * surplus p → (r % 2 ≡ 0 → ⊥) → i ≡ 0 → Some (Take (r - 1) hand_in Before) ≡ slice_get (allreduce p r) i
-  odd_first i l z e = rw (odd l z, e)
-
+-- a rank that exchanges for another too
+module _ (other p n : ℕ) where
   abbrev rest : List Action
-  rest = exchange p ((r - 1) / 2) ++ (Send (r - 1) hand_back ∷ [])
+  rest = exchange p n ++ (Send other hand_back ∷ [])
 
-  shifted : (i : ℕ) → r < 2 * surplus p → (r % 2 ≡ 0 → ⊥) → 0 < i → slice_get rest (i - 1) ≡ slice_get (allreduce p r) i
-  shifted i l z h =
+  shifted : (i : ℕ) → 0 < i → slice_get rest (i - 1) ≡ slice_get (for_two other p n) i
+  shifted i h =
       let q : i ≡ suc (i - 1) = omega arith in
-      ap (λ (j : ℕ). slice_get (Take (r - 1) hand_in Before ∷ rest) j) (sym q) ∙ ap (λ (x : List Action). slice_get x i) (sym (odd l z))
+      ap (λ (j : ℕ). slice_get (for_two other p n) j) (sym q)
 
-  pub odd_exchange : (i : ℕ) → r < 2 * surplus p → (r % 2 ≡ 0 → ⊥) → 0 < i → i < 2 * floor_log p + 1 → slice_get (exchange p ((r - 1) / 2)) (i - 1) ≡ slice_get (allreduce p r) i
-  odd_exchange i l z h m =
-      sym (nth_left (exchange p ((r - 1) / 2)) (Send (r - 1) hand_back ∷ []) (i - 1) (omega (arith, length-exchange p ((r - 1) / 2)))) ∙ shifted i l z h
+  pub between : (i : ℕ) → 0 < i → i < length (exchange p n) + 1 → slice_get (exchange p n) (i - 1) ≡ slice_get (for_two other p n) i
+  between i h m = sym (nth_left (exchange p n) (Send other hand_back ∷ []) (i - 1) (omega arith)) ∙ shifted i h
 
-  pub odd_last : (i : ℕ) → r < 2 * surplus p → (r % 2 ≡ 0 → ⊥) → i ≡ 2 * floor_log p + 1 → Some (Send (r - 1) hand_back) ≡ slice_get (allreduce p r) i
-  odd_last i l z e =
-      let len : length (exchange p ((r - 1) / 2)) ≡ 2 * floor_log p = length-exchange p ((r - 1) / 2) in
+  pub last : (i : ℕ) → i ≡ length (exchange p n) + 1 → Some (Send other hand_back) ≡ slice_get (for_two other p n) i
+  last i e =
       sym
-      (nth_right (exchange p ((r - 1) / 2)) (Send (r - 1) hand_back ∷ []) (i - 1) (omega arith)
-      ∙ ap (slice_get (Send (r - 1) hand_back ∷ [])) (let q : i - 1 - length (exchange p ((r - 1) / 2)) ≡ 0 = omega arith in q))
-      ∙ shifted i l z (omega arith)
+      (nth_right (exchange p n) (Send other hand_back ∷ []) (i - 1) (omega arith)
+      ∙ ap (slice_get (Send other hand_back ∷ [])) (let q : i - 1 - length (exchange p n) ≡ 0 = omega arith in q))
+      ∙ shifted i (omega arith)
 
-  pub odd_length : r < 2 * surplus p → (r % 2 ≡ 0 → ⊥) → length (allreduce p r) ≡ 2 * floor_log p + 2
-  odd_length l z =
-      ap length (odd l z)
-      ∙ omega (arith, length-append (exchange p ((r - 1) / 2)) (Send (r - 1) hand_back ∷ []), length-exchange p ((r - 1) / 2))
-
-  pub odd_past : (i : ℕ) → r < 2 * surplus p → (r % 2 ≡ 0 → ⊥) → 2 * floor_log p + 1 < i → None ≡ slice_get (allreduce p r) i
-  odd_past i l z h = sym (slice_get_past (allreduce p r) i (omega (arith, odd_length l z)))
-
-  pub even_past : (i : ℕ) → r < 2 * surplus p → r % 2 ≡ 0 → (i ≡ 0 → ⊥) → (i ≡ 1 → ⊥) → None ≡ slice_get (allreduce p r) i
-  even_past i l z h k = sym (slice_get_past (allreduce p r) i (omega (arith, ap length (even l z))))
-
-  pub even_first : (i : ℕ) → r < 2 * surplus p → r % 2 ≡ 0 → i ≡ 0 → Some (Send (r + 1) hand_in) ≡ slice_get (allreduce p r) i
-  even_first i l z e = rw (even l z, e)
-
-  pub even_second : (i : ℕ) → r < 2 * surplus p → r % 2 ≡ 0 → i ≡ 1 → Some (Take (r + 1) hand_back Replace) ≡ slice_get (allreduce p r) i
-  even_second i l z e = rw (even l z, e)
+  pub past : (i : ℕ) → length (exchange p n) + 1 < i → None ≡ slice_get (for_two other p n) i
+  past i l = sym (slice_get_past (for_two other p n) i (omega (arith, length-append (exchange p n) (Send other hand_back ∷ []))))

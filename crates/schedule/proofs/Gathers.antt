@@ -1,7 +1,6 @@
 -- What stands at an index of a rank's programme in a gather.
-use Rattle.std.proofs.Common.{◌≡◌, ℕ, suc, ◌+◌, ◌-◌, ◌<◌, ◌≤◌, not, eqb, List, [], ◌∷◌, ◌++◌, length, Some, None, sym, refl, ap, ◌∙◌, append-nil, arith, length-append}
+use Rattle.std.proofs.Common.{◌≡◌, ℕ, suc, ◌+◌, ◌-◌, ◌<◌, ◌≤◌, not, eqb, List, [], ◌∷◌, ◌++◌, length, Some, sym, refl, ap, ◌∙◌, append-nil, arith, length-append}
 use Rattle.std.specs.List.{slice_get}
-use Rattle.std.proofs.lemmas.Option.{slice_get_past}
 use Rattle.std.proofs.lemmas.Bool.{eq-eqb, ne_eqb}
 use Rattle.programme.specs.declared.Action.{Action}
 use Rattle.programme.specs.declared.Action.TheVariants.{Send, Take}
@@ -11,7 +10,7 @@ use Rattle.programme.specs.Programme.{steps, when, gather}
 use Rattle.programme.proofs.Lists.{steps_next}
 use Rattle.schedule.proofs.Positions.{listed, length-listed, nth_listed, nth_left, nth_right, steps_single}
 
-pub elsewhere : (p root r : ℕ) → (r ≡ root → ⊥) → gather p root r ≡ Send root collect ∷ []
+elsewhere : (p root r : ℕ) → (r ≡ root → ⊥) → gather p root r ≡ Send root collect ∷ []
 unfolding gather
 elsewhere p root r n = rw (ne_eqb r root n)
 
@@ -63,14 +62,8 @@ root_late p root r i h e l m =
     ∙ nth_listed take (suc root) (p - suc root) (i - length (listed take 0 root)) (omega arith)
     ∙ ap (λ (k : ℕ). Some (take k)) (let q : suc root + (i - length (listed take 0 root)) ≡ i + 1 = omega arith in q)))
 
-pub root_past : (p root r i : ℕ) → root < p → r ≡ root → p - 1 ≤ i → None ≡ slice_get (gather p root r) i
-root_past p root r i h e l = sym (slice_get_past (gather p root r) i (omega (arith, root_length p root r h e)))
-
 pub other_first : (p root r i : ℕ) → (r ≡ root → ⊥) → i ≡ 0 → Some (Send root collect) ≡ slice_get (gather p root r) i
 other_first p root r i n e = rw (elsewhere p root r n, e)
-
-pub other_past : (p root r i : ℕ) → (r ≡ root → ⊥) → (i ≡ 0 → ⊥) → None ≡ slice_get (gather p root r) i
-other_past p root r i n e = rw (elsewhere p root r n) (sym (slice_get_past (Send root collect ∷ []) i (omega arith)))
 
 pub other_length : (p root r : ℕ) → (r ≡ root → ⊥) → 1 ≡ length (gather p root r)
 other_length p root r n = rw (elsewhere p root r n)

@@ -4,12 +4,11 @@ use Rattle.std.specs.List.{slice_get}
 use Rattle.std.proofs.lemmas.Option.{slice_get_past}
 use Rattle.std.proofs.lemmas.Bool.{lt-ltb, le-ltb, cases_lt, and_right}
 use Rattle.programme.specs.declared.Action.{Action}
-use Rattle.programme.specs.declared.Action.TheVariants.{Send, Take}
-use Rattle.programme.specs.declared.Merge.TheVariants.{Replace}
-use Rattle.programme.specs.Levels.{levels, floor_log}
+use Rattle.programme.specs.declared.Action.TheVariants.{Send}
+use Rattle.programme.specs.Levels.{levels}
 use Rattle.programme.specs.Programme.{steps, when, broadcast}
 use Rattle.programme.proofs.Power.{levels_mono}
-use Rattle.schedule.specs.Part.{spread_step}
+use Rattle.schedule.specs.Part.{spread, spread_step, taken}
 use Rattle.schedule.proofs.Places.{has_above, none_above, has_below, none_below}
 use Rattle.schedule.proofs.Positions.{listed, length-listed, nth_listed, steps_quiet, steps_single}
 
@@ -59,46 +58,36 @@ module _ (p root u : ℕ) (h : u < p) where
       ∙ ap (λ (j : ℕ). Some (send j)) e
       ∙ sym (ap (λ (y : List Action). slice_get y i) shape ∙ nth_listed send T (S - T) i l)
 
-  pub spread_length : length (steps (spread_step p root u) (levels p)) ≡ S - T
+  spread_length : length (steps (spread_step p root u) (levels p)) ≡ S - T
   spread_length = ap length shape ∙ length-listed send T (S - T)
 
   pub spread_past : (i : ℕ) → S - T ≤ i → None ≡ slice_get (steps (spread_step p root u) (levels p)) i
   spread_past i l = sym (slice_get_past (steps (spread_step p root u) (levels p)) i (omega (arith, spread_length)))
 
-abbrev taken : (p root u : ℕ) → Action
-taken p root u = Take ((u - 2 ^ floor_log u + root) % p) (floor_log u) Replace
+  pub at_root : u ≡ 0 → spread p root u ≡ steps (spread_step p root u) (levels p)
+  unfolding spread
+  at_root z = ap (λ (t : Bool). when t (taken p root u) ++ steps (spread_step p root u) (levels p)) (le-ltb 0 u (omega arith))
 
-abbrev programme : (p root u : ℕ) → List Action
-programme p root u = when (ltb 0 u) (taken p root u) ++ steps (spread_step p root u) (levels p)
+  at_other : 0 < u → spread p root u ≡ taken p root u ∷ steps (spread_step p root u) (levels p)
+  unfolding spread
+  at_other l = ap (λ (t : Bool). when t (taken p root u) ++ steps (spread_step p root u) (levels p)) (lt-ltb 0 u l)
 
-numbered : (p root r : ℕ) → broadcast p root r ≡ programme p root ((r + (p - root)) % p)
-unfolding broadcast spread_step
-numbered p root r = refl
+  pub takes_first : (i : ℕ) → 0 < u → i ≡ 0 → Some (taken p root u) ≡ slice_get (spread p root u) i
+  takes_first i l z = rw (at_other l, z)
 
--- the rank's number is u
-module _ (p root r u : ℕ) (h : u < p) (e : u ≡ (r + (p - root)) % p) where
-  by_number : broadcast p root r ≡ programme p root u
-  by_number = numbered p root r ∙ ap (programme p root) (sym e)
-
-  pub at_root : u ≡ 0 → broadcast p root r ≡ steps (spread_step p root u) (levels p)
-  at_root z = by_number ∙ ap (λ (t : Bool). when t (taken p root u) ++ steps (spread_step p root u) (levels p)) (le-ltb 0 u (omega arith))
-
-  at_other : 0 < u → broadcast p root r ≡ taken p root u ∷ steps (spread_step p root u) (levels p)
-  at_other l = by_number ∙ ap (λ (t : Bool). when t (taken p root u) ++ steps (spread_step p root u) (levels p)) (lt-ltb 0 u l)
-
-  pub takes_first : (i x k : ℕ) → 0 < u → i ≡ 0 → k ≡ floor_log u → x ≡ (u - 2 ^ k + root) % p → Some (Take x k Replace) ≡ slice_get (broadcast p root r) i
-  takes_first i x k l z f g =
-      rw (at_other l, z)
-      (ap (λ (y : ℕ). Some (Take y k Replace)) g ∙ ap (λ (j : ℕ). Some (Take ((u - 2 ^ j + root) % p) j Replace)) f)
-
-  pub then_sends : (i : ℕ) → 0 < u → 0 < i → slice_get (steps (spread_step p root u) (levels p)) (i - 1) ≡ slice_get (broadcast p root r) i
+  pub then_sends : (i : ℕ) → 0 < u → 0 < i → slice_get (steps (spread_step p root u) (levels p)) (i - 1) ≡ slice_get (spread p root u) i
   then_sends i l z =
       let q : i ≡ suc (i - 1) = omega arith in
       ap (λ (j : ℕ). slice_get (taken p root u ∷ steps (spread_step p root u) (levels p)) j) (sym q)
       ∙ ap (λ (x : List Action). slice_get x i) (sym (at_other l))
 
-  pub root_length : u ≡ 0 → levels (p - u) - levels (u + 1) ≡ length (broadcast p root r)
-  root_length z = sym (ap length (at_root z) ∙ spread_length p root u h)
+  pub root_length : u ≡ 0 → S - T ≡ length (spread p root u)
+  root_length z = sym (ap length (at_root z) ∙ spread_length)
 
-  pub other_length : 0 < u → levels (p - u) - levels (u + 1) + 1 ≡ length (broadcast p root r)
-  other_length l = sym (ap length (at_other l) ∙ omega (arith, spread_length p root u h))
+  pub other_length : 0 < u → S - T + 1 ≡ length (spread p root u)
+  other_length l = sym (ap length (at_other l) ∙ omega (arith, spread_length))
+
+-- a rank's programme is that of its number
+pub numbered : (p root r : ℕ) → broadcast p root r ≡ spread p root ((r + (p - root)) % p)
+unfolding spread broadcast spread_step
+numbered p root r = refl

@@ -1,11 +1,12 @@
 -- What stands at an index of a rank's programme in a reduce.
 use Rattle.std.proofs.Common.{◌≡◌, ℕ, zero, suc, ◌+◌, ◌-◌, ◌/◌, ◌%◌, ◌^◌, ◌<◌, ◌≤◌, min, true, false, not, ◌&&◌, eqb, List, [], ◌∷◌, ◌++◌, length, Some, None, Option, sym, refl, ap, ◌∙◌, ap₂, ⊎_elim, append_assoc, append-nil, mod-eq_of_lt, arith, length-append}
 use native.Mathlib.Nat.{div-eq_of_lt}
-use lib.Count.{count_trailing_zeros}
+use Rattle.std.specs.Int.Count.{count_trailing_zeros}
+use Rattle.ranks.specs.Ranks.{most_ranks}
 use Rattle.std.specs.List.{slice_get}
 use Rattle.std.proofs.lemmas.Nat.{mod-pow-add, pow_pos}
 use Rattle.std.proofs.lemmas.Option.{slice_get_past}
-use Rattle.std.proofs.lemmas.Bool.{lt-ltb, le-ltb, eq-eqb, ne_eqb, cases_eq, cases_Bool}
+use Rattle.std.proofs.lemmas.Bool.{le-ltb, eq-eqb, ne_eqb, cases_eq, cases_Bool}
 use Rattle.programme.specs.declared.Action.{Action}
 use Rattle.programme.specs.declared.Action.TheVariants.{Send, Take}
 use Rattle.programme.specs.declared.Merge.TheVariants.{After, Replace}
@@ -14,8 +15,9 @@ use Rattle.programme.specs.Levels.{levels}
 use Rattle.programme.specs.Programme.{steps, when, bit, fold_step, reduce}
 use Rattle.programme.specs.Formula.{takes}
 use Rattle.programme.proofs.Bits.{mod_set, set_le}
+use Rattle.programme.proofs.Folding.{send_is, take_is}
 use Rattle.programme.proofs.Lists.{steps_next}
-use Rattle.programme.proofs.Power.{levels_mono, levels_below, lt_pow}
+use Rattle.programme.proofs.Power.{levels_mono, levels_below}
 use Rattle.schedule.specs.Part.{tree, delivered, one_of}
 use Rattle.schedule.proofs.Places.{has_above, none_above}
 use Rattle.schedule.proofs.Positions.{listed, length-listed, nth_listed, nth_left, nth_right, steps_quiet, steps_single}
@@ -48,7 +50,7 @@ takes_listed : (g : ℕ → Action) (more : List Action) → ((k : ℕ) (l : Lis
 takes_listed g more h from zero = omega arith
 takes_listed g more h from (suc n) = h from (listed g (suc from) n ++ more) ∙ omega (arith, takes_listed g more h (suc from) n)
 
-module _ (p r : ℕ) (h : r < p) where
+module _ (p r : ℕ) (h : r < p) (few : p ≤ most_ranks) where
   abbrev take : ℕ → Action
   take k = Take (r + 2 ^ k) k After
 
@@ -56,8 +58,7 @@ module _ (p r : ℕ) (h : r < p) where
   S = levels (p - r)
 
   takes_here : (k : ℕ) → r % 2 ^ k ≡ 0 → bit r k ≡ false → k < S → fold_step p r k ≡ take k ∷ []
-  unfolding fold_step
-  takes_here k z b s = rw (eq-eqb (r % 2 ^ k) 0 z, b, lt-ltb (r + 2 ^ k) p (has_above p r k s))
+  takes_here k z b s = take_is p r k z b (has_above p r k s)
 
   none_here : (k : ℕ) → bit r k ≡ false → S ≤ k → fold_step p r k ≡ []
   unfolding fold_step
@@ -66,10 +67,6 @@ module _ (p r : ℕ) (h : r < p) where
       (λ (z : r % 2 ^ k ≡ 0). rw (eq-eqb (r % 2 ^ k) 0 z, b, le-ltb (r + 2 ^ k) p (none_above p r k s)))
       (λ (z : r % 2 ^ k ≡ 0 → ⊥). rw (ne_eqb (r % 2 ^ k) 0 z))
       (cases_eq (r % 2 ^ k) 0)
-
-  sends_here : (k : ℕ) → r % 2 ^ k ≡ 0 → bit r k ≡ true → fold_step p r k ≡ Send (r - 2 ^ k) k ∷ []
-  unfolding fold_step
-  sends_here k z b = rw (eq-eqb (r % 2 ^ k) 0 z, b)
 
   left_here : (k : ℕ) → (r % 2 ^ k ≡ 0 → ⊥) → fold_step p r k ≡ []
   unfolding fold_step
@@ -94,16 +91,24 @@ module _ (p r : ℕ) (h : r < p) where
       ∙ steps_next (fold_step p r) k
       ∙ ap₂ (λ (x y : List Action). x ++ y)
       (low_steps k (λ j l. (mod_smaller r j k (omega arith) z, clear_below r j k l z)))
-      (sends_here k z b)
+      (send_is p r k z b)
 
   takes_more : (k : ℕ) (l : List Action) → takes (take k ∷ l) ≡ suc (takes l)
   takes_more k l = refl
 
-  pub zero_takes : r ≡ 0 → S ≡ takes (tree p r)
+  zero_takes : r ≡ 0 → S ≡ takes (tree p r)
   zero_takes e = sym (ap takes (zero_shape e ∙ sym (append-nil (listed take 0 S))) ∙ takes_listed take [] takes_more 0 S ∙ omega arith)
 
-  pub other_takes : (k : ℕ) → r % 2 ^ k ≡ 0 → bit r k ≡ true → min S k ≡ takes (tree p r)
+  other_takes : (k : ℕ) → r % 2 ^ k ≡ 0 → bit r k ≡ true → min S k ≡ takes (tree p r)
   other_takes k z b = sym (ap takes (other_shape k z b) ∙ takes_listed take (Send (r - 2 ^ k) k ∷ []) takes_more 0 (min S k) ∙ omega arith)
+
+  -- t is the place of the lowest bit, and past all steps if there is none
+  pub takes_are : (t : ℕ) → (r ≡ 0 → S ≤ t) → r % 2 ^ t ≡ 0 → (0 < r → bit r t ≡ true) → min S t ≡ takes (tree p r)
+  takes_are t q z b =
+      ⊎_elim
+      (λ (e : r ≡ 0). omega (arith, zero_takes e, q e))
+      (λ (e : r ≡ 0 → ⊥). other_takes t z (b (omega arith)))
+      (cases_eq r 0)
 
   abbrev T : ℕ
   T = takes (tree p r)
@@ -114,15 +119,11 @@ module _ (p r : ℕ) (h : r < p) where
   other_tree : (k : ℕ) → r % 2 ^ k ≡ 0 → bit r k ≡ true → tree p r ≡ listed take 0 T ++ (Send (r - 2 ^ k) k ∷ [])
   other_tree k z b = other_shape k z b ∙ ap (λ (n : ℕ). listed take 0 n ++ (Send (r - 2 ^ k) k ∷ [])) (other_takes k z b)
 
-  place : 0 < r → Lowest r (count_trailing_zeros r r)
-  place l = lowest r r l (lt_pow r)
+  abbrev Z : ℕ
+  Z = count_trailing_zeros 64 r
 
-  pub takes_above : T ≤ S
-  takes_above =
-      ⊎_elim
-      (λ (e : r ≡ 0). omega (arith, zero_takes e))
-      (λ (e : r ≡ 0 → ⊥). let l = place (omega arith) in omega (arith, other_takes _ l.below (eq-eqb _ 1 l.here)))
-      (cases_eq r 0)
+  place : 0 < r → Lowest r Z
+  place l = lowest r l (omega arith)
 
   pub zero_length : r ≡ 0 → T ≡ length (tree p r)
   zero_length e = sym (ap length (zero_tree e) ∙ length-listed take 0 T)
@@ -131,8 +132,8 @@ module _ (p r : ℕ) (h : r < p) where
   other_length e =
       let l = place (omega arith) in
       sym
-      (ap length (other_tree (count_trailing_zeros r r) l.below (eq-eqb _ 1 l.here))
-      ∙ length-append (listed take 0 T) (Send (r - 2 ^ count_trailing_zeros r r) (count_trailing_zeros r r) ∷ [])
+      (ap length (other_tree Z l.below (eq-eqb _ 1 l.here))
+      ∙ length-append (listed take 0 T) (Send (r - 2 ^ Z) Z ∷ [])
       ∙ omega (arith, length-listed take 0 T))
 
   pub tree_take : (i x : ℕ) → i < T → x ≡ r + 2 ^ i → Some (Take x i After) ≡ slice_get (tree p r) i
@@ -143,8 +144,8 @@ module _ (p r : ℕ) (h : r < p) where
       (λ (e : r ≡ 0). ap (λ (y : List Action). slice_get y i) (zero_tree e) ∙ at)
       (λ (e : r ≡ 0 → ⊥).
       let w = place (omega arith) in
-      ap (λ (y : List Action). slice_get y i) (other_tree (count_trailing_zeros r r) w.below (eq-eqb _ 1 w.here))
-      ∙ nth_left (listed take 0 T) (Send (r - 2 ^ count_trailing_zeros r r) (count_trailing_zeros r r) ∷ []) i (omega (arith, length-listed take 0 T))
+      ap (λ (y : List Action). slice_get y i) (other_tree Z w.below (eq-eqb _ 1 w.here))
+      ∙ nth_left (listed take 0 T) (Send (r - 2 ^ Z) Z ∷ []) i (omega (arith, length-listed take 0 T))
       ∙ at)
       (cases_eq r 0))
     where
@@ -159,14 +160,17 @@ module _ (p r : ℕ) (h : r < p) where
       ∙ nth_right (listed take 0 T) (Send (r - 2 ^ k) k ∷ []) i (omega (arith, length-listed take 0 T))
       ∙ ap (slice_get (Send (r - 2 ^ k) k ∷ [])) (let q : i - length (listed take 0 T) ≡ 0 = omega (arith, length-listed take 0 T) in q))
 
-  pub zero_past : (i : ℕ) → r ≡ 0 → T ≤ i → None ≡ slice_get (tree p r) i
-  zero_past i e l = sym (slice_get_past (tree p r) i (omega (arith, zero_length e)))
-
-  pub other_past : (i : ℕ) → (r ≡ 0 → ⊥) → T < i → None ≡ slice_get (tree p r) i
-  other_past i e l = sym (slice_get_past (tree p r) i (omega (arith, other_length e)))
+  pub past_tree : (i : ℕ) → T ≤ i → (i ≡ T → r ≡ 0) → None ≡ slice_get (tree p r) i
+  past_tree i l e =
+      sym
+      (slice_get_past (tree p r) i
+      (⊎_elim
+      (λ (z : r ≡ 0). omega (arith, zero_length z))
+      (λ (z : r ≡ 0 → ⊥). ⊎_elim (λ (q : i ≡ T). absurd (z (e q))) (λ (q : i ≡ T → ⊥). omega (arith, other_length z)) (cases_eq i T))
+      (cases_eq r 0)))
 
 -- the whole programme
-pub in_two : (p root r : ℕ) → reduce p root r ≡ tree p r ++ delivered root r
+in_two : (p root r : ℕ) → reduce p root r ≡ tree p r ++ delivered root r
 unfolding reduce
 in_two p root r = append_assoc (tree p r) (when (not (eqb root 0) && eqb r 0) (Send root deliver)) (when (not (eqb root 0) && eqb r root) (Take 0 deliver Replace))
 
@@ -194,7 +198,7 @@ module _ (p root r : ℕ) (o : Option Action) (e : delivered root r ≡ one_of o
   pub past : (i : ℕ) → length (tree p r) < i → None ≡ slice_get (reduce p root r) i
   past i l = none_after o (i - length (tree p r)) (omega arith) ∙ behind i (omega arith)
 
-  pub whole_length : length (reduce p root r) ≡ length (tree p r) + length (one_of o)
+  whole_length : length (reduce p root r) ≡ length (tree p r) + length (one_of o)
   whole_length = ap length (in_two p root r ∙ ap (λ (y : List Action). tree p r ++ y) e) ∙ length-append (tree p r) (one_of o)
 
 pub delivery_known : (root r : ℕ) → (o : Option Action) × (delivered root r ≡ one_of o)

@@ -1,2 +1,3 @@
 pub mod Collective
 pub mod Part
+pub mod Role

@@ -1,92 +1,85 @@
 // Allreduce: as many ranks as the greatest power of two exchange in pairs, step by step. The others, which are the surplus,
 // hand their value in at first and are handed the result at the end: below twice the surplus, even ranks are these.
-ghost use Rattle.std.specs.Prelude.{◌≡◌, ◌+◌, ◌*◌, ◌%◌, ◌^◌, ◌<◌, ◌≤◌, length, if◌then◌else◌, ◌≢◌, ◌==◌};
+ghost use Rattle.std.specs.Prelude.{◌≡◌, ◌+◌, ◌*◌, ◌^◌, ◌<◌, ◌≤◌, if◌then◌else◌, ◌==◌};
 ghost use Rattle.programme.specs.Levels.{floor_log, surplus};
-ghost use Rattle.programme.specs.Programme.{allreduce, bit, exchange, flip, rank_of};
-ghost use Rattle.programme.specs.declared.Merge.TheVariants.{Before, After};
+ghost use Rattle.programme.specs.Programme.{allreduce};
 ghost use Rattle.ranks.specs.Ranks.{most_ranks};
+ghost use Rattle.schedule.specs.Part.{handed_in, for_two};
+ghost use Rattle.schedule.specs.Role.{actions_of};
 ghost use Rattle.std.specs.List.{slice_get};
 
+use crate::exchange::Exchange;
 use crate::label;
-use crate::powers::{flipped, floor_log2, has_bit, power};
+use crate::member::Member;
+use crate::part::Part;
+use crate::powers::{floor_log2, power, surplus_of};
 use programme::{Action, Merge};
 
-fn surplus_of(ranks: usize) -> usize
-    requires { 0 < ranks }
-    ensures is { result ≡ surplus ranks }
-    ensures rest { 2 ^ floor_log ranks + result ≡ ranks }
-    ensures less { 2 * result < ranks }
-{
-    ranks - power(floor_log2(ranks))
+// What a rank does, by its place.
+#[derive(Clone, Copy)]
+pub(crate) enum Allreduce {
+    // It exchanges for itself alone.
+    Alone { exchange: Exchange },
+    // It hands its value in to another rank, which hands the result back.
+    HandsIn { other: usize },
+    // It exchanges for another rank too.
+    ForTwo { other: usize, exchange: Exchange },
 }
 
-// The rank that has a number among those that exchange.
-fn rank_with(ranks: usize, number: usize) -> usize
-    requires { (0 < ranks) × ((ranks ≤ most_ranks) × (number ≤ 2 * ranks)) }
-    ensures { result ≡ rank_of ranks number }
-{
-    let surplus = surplus_of(ranks);
-    if number < surplus {
-        2 * number + 1
-    } else {
-        number + surplus
+impl Allreduce {
+    pub(crate) fn new(member: Member) -> Allreduce
+        ensures { actions_of result ≡ allreduce member.ranks member.rank }
+    {
+        let Member { ranks, rank } = member;
+        let surplus = surplus_of(ranks);
+        if rank >= 2 * surplus {
+            let number = rank - surplus;
+            Allreduce::Alone {
+                exchange: Exchange { ranks, number },
+            }
+        } else if rank % 2 == 0 {
+            Allreduce::HandsIn { other: rank + 1 }
+        } else {
+            let number = rank / 2;
+            Allreduce::ForTwo {
+                other: rank - 1,
+                exchange: Exchange { ranks, number },
+            }
+        }
     }
 }
 
-// The rank whose number differs in bit k.
-fn partner(ranks: usize, number: usize, k: usize) -> usize
-    requires ranks_nonzero { (0 < ranks) × (ranks ≤ most_ranks) }
-    requires number_bound { (number < 2 ^ floor_log ranks) × (k < floor_log ranks) }
-    ensures { result ≡ rank_of ranks (flip number k) }
-{
-    rank_with(ranks, flipped(number, k))
-}
+impl Part for Allreduce {
+    ghost actions = { actions_of };
 
-// A number with bit k set takes from a lower one, whose value is joined before.
-fn side(number: usize, k: usize) -> Merge
-    requires { k < 64 }
-    ensures { result ≡ (if bit number k then Before else After) }
-{
-    if has_bit(number, k) {
-        Merge::Before
-    } else {
-        Merge::After
+    fn action(self, index: usize) -> Option<Action> {
+        match self {
+            Allreduce::Alone { exchange } => exchange.action(index),
+            Allreduce::HandsIn { other } => hand_in(other, index),
+            Allreduce::ForTwo { other, exchange } => exchange_for(other, exchange, index),
+        }
+    }
+
+    fn length(self) -> usize {
+        match self {
+            Allreduce::Alone { exchange } => exchange.length(),
+            Allreduce::HandsIn { .. } => 2,
+            Allreduce::ForTwo { exchange, .. } => exchange.length() + 2,
+        }
     }
 }
 
-fn exchange_action(ranks: usize, number: usize, index: usize) -> Option<Action>
-    requires { (0 < ranks) × ((ranks ≤ most_ranks) × (number < 2 ^ floor_log ranks)) }
-    ensures { result ≡ slice_get (exchange ranks number) index }
-{
-    let k = index / 2;
-    if k >= floor_log2(ranks) {
-        None
-    } else if index % 2 == 0 {
-        Some(Action::Send {
-            to: partner(ranks, number, k),
-            label: k as u32,
-        })
-    } else {
-        Some(Action::Take {
-            from: partner(ranks, number, k),
-            label: k as u32,
-            merge: side(number, k),
-        })
-    }
-}
-
-// An even rank below twice the surplus.
-fn even_action(ranks: usize, rank: usize, index: usize) -> Option<Action>
-    requires { (ranks ≤ most_ranks) × ((rank < 2 * surplus ranks) × ((rank < ranks) × (rank % 2 ≡ 0))) }
-    ensures { result ≡ slice_get (allreduce ranks rank) index }
+// The actions of a rank that hands its value in.
+fn hand_in(other: usize, index: usize) -> Option<Action>
+    ensures { result ≡ slice_get (handed_in other) index }
 {
     match index {
         0 => Some(Action::Send {
-            to: rank + 1,
+            to: other,
             label: label::HAND_IN,
         }),
         1 => Some(Action::Take {
-            from: rank + 1,
+            from: other,
             label: label::HAND_BACK,
             merge: Merge::Replace,
         }),
@@ -94,55 +87,26 @@ fn even_action(ranks: usize, rank: usize, index: usize) -> Option<Action>
     }
 }
 
-// An odd rank below twice the surplus, which exchanges for the one before it too.
-fn odd_action(ranks: usize, rank: usize, index: usize) -> Option<Action>
-    requires { (ranks ≤ most_ranks) × ((rank < 2 * surplus ranks) × ((rank < ranks) × (rank % 2 ≢ 0))) }
-    ensures { result ≡ slice_get (allreduce ranks rank) index }
+// The actions of a rank that exchanges for another too.
+fn exchange_for(other: usize, exchange: Exchange, index: usize) -> Option<Action>
+    ensures { result ≡ slice_get (for_two other exchange.ranks exchange.number) index }
 {
-    let end = 2 * floor_log2(ranks) + 1;
+    let end = exchange.length() + 1;
     if index == 0 {
         Some(Action::Take {
-            from: rank - 1,
+            from: other,
             label: label::HAND_IN,
             merge: Merge::Before,
         })
     } else if index < end {
-        exchange_action(ranks, (rank - 1) / 2, index - 1)
+        exchange.action(index - 1)
     } else if index == end {
         Some(Action::Send {
-            to: rank - 1,
+            to: other,
             label: label::HAND_BACK,
         })
     } else {
         None
-    }
-}
-
-pub(crate) fn action(ranks: usize, rank: usize, index: usize) -> Option<Action>
-    requires { (rank < ranks) × (ranks ≤ most_ranks) }
-    ensures { result ≡ slice_get (allreduce ranks rank) index }
-{
-    let surplus = surplus_of(ranks);
-    if rank >= 2 * surplus {
-        exchange_action(ranks, rank - surplus, index)
-    } else if rank % 2 == 0 {
-        even_action(ranks, rank, index)
-    } else {
-        odd_action(ranks, rank, index)
-    }
-}
-
-pub(crate) fn length(ranks: usize, rank: usize) -> usize
-    requires { (rank < ranks) × (ranks ≤ most_ranks) }
-    ensures { result ≡ length (allreduce ranks rank) }
-{
-    let exchanges = 2 * floor_log2(ranks);
-    if rank >= 2 * surplus_of(ranks) {
-        exchanges
-    } else if rank % 2 == 0 {
-        2
-    } else {
-        exchanges + 2
     }
 }
 

@@ -1,44 +1,44 @@
 // Gather: the root takes from every other rank in ascending order.
-ghost use Rattle.std.specs.Prelude.{◌≡◌, ◌<◌, length};
+ghost use Rattle.std.specs.Prelude.{◌<◌};
 ghost use Rattle.programme.specs.Programme.{gather};
-ghost use Rattle.std.specs.List.{slice_get};
 
 use crate::label;
+use crate::member::Member;
+use crate::part::Part;
 use programme::{Action, Merge};
 
-pub(crate) fn action(ranks: usize, root: usize, rank: usize, index: usize) -> Option<Action>
-    requires { root < ranks }
-    ensures { result ≡ slice_get (gather ranks root rank) index }
-{
-    if rank != root {
-        if index == 0 {
-            Some(Action::Send {
-                to: root,
-                label: label::COLLECT,
-            })
-        } else {
-            None
-        }
-    } else if index < root {
-        Some(Action::Take {
-            from: index,
-            label: label::COLLECT,
-            merge: Merge::Keep,
-        })
-    } else if index < ranks - 1 {
-        Some(Action::Take {
-            from: index + 1,
-            label: label::COLLECT,
-            merge: Merge::Keep,
-        })
-    } else {
-        None
-    }
+#[derive(Clone, Copy)]
+pub(crate) struct Gather {
+    pub(crate) member: Member,
+    pub(crate) root: usize,
+    ghost rooted: { root < member.ranks },
 }
 
-pub(crate) fn length(ranks: usize, root: usize, rank: usize) -> usize
-    requires { root < ranks }
-    ensures { result ≡ length (gather ranks root rank) }
-{
-    if rank == root { ranks - 1 } else { 1 }
+impl Part for Gather {
+    ghost actions = { λ s. gather s.member.ranks s.root s.member.rank };
+
+    fn action(self, index: usize) -> Option<Action> {
+        if index >= self.length() {
+            None
+        } else if self.member.rank == self.root {
+            Some(Action::Take {
+                from: if index < self.root { index } else { index + 1 },
+                label: label::COLLECT,
+                merge: Merge::Keep,
+            })
+        } else {
+            Some(Action::Send {
+                to: self.root,
+                label: label::COLLECT,
+            })
+        }
+    }
+
+    fn length(self) -> usize {
+        if self.member.rank == self.root {
+            self.member.ranks - 1
+        } else {
+            1
+        }
+    }
 }

@@ -6,20 +6,30 @@ ghost use Rattle.programme.specs.Progress.{Flow};
 ghost use Rattle.schedule.specs.Collective.{kind_of, root_in, root_of, Allowed, NamesOther, actions_of, rounds_of, messages_of};
 ghost use Rattle.std.specs.List.{slice_get};
 
+use allreduce::Allreduce;
+use broadcast::Broadcast;
+use gather::Gather;
+use member::Member;
+use part::Part;
 use powers::ceil_log2;
 use programme::{Action, Merge};
 use ranks::MAX_RANKS;
+use reduce::Reduce;
+use scan::Scan;
 
 mod allreduce;
 mod broadcast;
+mod exchange;
 mod gather;
 pub mod label;
+mod member;
+mod part;
 mod powers;
 mod reduce;
 mod scan;
 
 // A collective, with its root where it has one.
-#[derive(Clone, Copy)]
+#[derive(Clone, Copy, PartialEq, Eq, Debug)]
 pub enum Collective {
     Broadcast { root: usize },
     Gather { root: usize },
@@ -83,40 +93,54 @@ impl Schedule {
         self.ranks
     }
 
+    // One of the ranks.
+    fn member(&self, rank: usize) -> Option<Member>
+        ensures { MatchOption result (self.now.ranks ≤ rank) (λ m. (m.ranks ≡ self.now.ranks) × (m.rank ≡ rank)) }
+    {
+        if rank < self.ranks {
+            Some(Member {
+                ranks: self.ranks,
+                rank,
+            })
+        } else {
+            None
+        }
+    }
+
     // The rank's action at that index, counted from 0; None past its last one.
+    #[tactic(auto, using(crate::proofs::Spreads::numbered), unfolding(programme::specs::Programme::scan, programme::specs::Programme::exscan))]
     pub fn action(&self, rank: usize, index: usize) -> Option<Action>
         ensures here { rank < self.now.ranks → result ≡ slice_get (actions_of self.now.collective self.now.ranks rank) index }
         ensures past { self.now.ranks ≤ rank → result ≡ None }
         ensures other { NamesOther self.now.ranks rank result }
     {
-        if rank >= self.ranks {
-            return None;
-        }
+        let member = self.member(rank)?;
         match self.collective {
-            Collective::Broadcast { root } => broadcast::action(self.ranks, root, rank, index),
-            Collective::Gather { root } => gather::action(self.ranks, root, rank, index),
-            Collective::Reduce { root } => reduce::action(self.ranks, root, rank, index),
-            Collective::Scan => scan::action(Merge::Before, self.ranks, rank, index),
-            Collective::Exscan => scan::action(Merge::Prefix, self.ranks, rank, index),
-            Collective::Allreduce => allreduce::action(self.ranks, rank, index),
+            Collective::Broadcast { root } => Broadcast::new(root, member).action(index),
+            Collective::Gather { root } => Gather { member, root }.action(index),
+            Collective::Reduce { root } => Reduce { member, root }.action(index),
+            Collective::Scan => Scan::new(Merge::Before, member).action(index),
+            Collective::Exscan => Scan::new(Merge::Prefix, member).action(index),
+            Collective::Allreduce => Allreduce::new(member).action(index),
         }
     }
 
     // How many actions the rank has.
+    #[tactic(auto, using(crate::proofs::Spreads::numbered), unfolding(programme::specs::Programme::scan, programme::specs::Programme::exscan))]
     pub fn length(&self, rank: usize) -> usize
         ensures here { rank < self.now.ranks → result ≡ length (actions_of self.now.collective self.now.ranks rank) }
         ensures past { self.now.ranks ≤ rank → result ≡ 0 }
     {
-        if rank >= self.ranks {
+        let Some(member) = self.member(rank) else {
             return 0;
-        }
+        };
         match self.collective {
-            Collective::Broadcast { root } => broadcast::length(self.ranks, root, rank),
-            Collective::Gather { root } => gather::length(self.ranks, root, rank),
-            Collective::Reduce { root } => reduce::length(self.ranks, root, rank),
-            Collective::Scan => scan::length(Merge::Before, self.ranks, rank),
-            Collective::Exscan => scan::length(Merge::Prefix, self.ranks, rank),
-            Collective::Allreduce => allreduce::length(self.ranks, rank),
+            Collective::Broadcast { root } => Broadcast::new(root, member).length(),
+            Collective::Gather { root } => Gather { member, root }.length(),
+            Collective::Reduce { root } => Reduce { member, root }.length(),
+            Collective::Scan => Scan::new(Merge::Before, member).length(),
+            Collective::Exscan => Scan::new(Merge::Prefix, member).length(),
+            Collective::Allreduce => Allreduce::new(member).length(),
         }
     }
 

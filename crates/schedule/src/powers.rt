@@ -1,6 +1,6 @@
 // Powers of two.
-ghost use Rattle.std.specs.Prelude.{◌≡◌, ◌+◌, ◌-◌, ◌%◌, ◌^◌, ◌<◌, ◌≤◌, true};
-ghost use Rattle.programme.specs.Levels.{levels, floor_log};
+ghost use Rattle.std.specs.Prelude.{◌≡◌, ◌+◌, ◌*◌, ◌%◌, ◌^◌, ◌<◌, ◌≤◌, true};
+ghost use Rattle.programme.specs.Levels.{levels, floor_log, surplus};
 ghost use Rattle.programme.specs.Programme.{bit, flip};
 
 pub(crate) fn power(k: usize) -> usize
@@ -32,20 +32,15 @@ pub(crate) fn floor_log2(n: usize) -> usize
     n.ilog2() as usize
 }
 
-// The rank 2^k above, where there is one.
-pub(crate) fn above(ranks: usize, rank: usize, k: usize) -> usize
-    requires { k < levels (ranks - rank) }
-    ensures { result ≡ rank + 2 ^ k }
+// How many there are beyond the greatest power of two.
+#[tactic(auto, using(programme::proofs::Power::surplus_splits, programme::proofs::Power::surplus_lt))]
+pub(crate) fn surplus_of(n: usize) -> usize
+    requires { 0 < n }
+    ensures is { result ≡ surplus n }
+    ensures rest { 2 ^ floor_log n + result ≡ n }
+    ensures less { 2 * result < n }
 {
-    rank + power(k)
-}
-
-// The rank 2^k below, where there is one.
-pub(crate) fn below(rank: usize, k: usize) -> usize
-    requires { k < levels (rank + 1) }
-    ensures { result ≡ rank - 2 ^ k }
-{
-    rank - power(k)
+    n - power(floor_log2(n))
 }
 
 pub(crate) fn has_bit(n: usize, k: usize) -> bool
@@ -61,20 +56,17 @@ pub(crate) fn flipped(n: usize, k: usize) -> usize
     ensures is { result ≡ flip n k }
     ensures within { result ≤ n + 2 ^ k }
 {
-    if has_bit(n, k) {
-        n - power(k)
-    } else {
-        n + power(k)
-    }
+    n ^ power(k)
 }
 
-// The place of the lowest 1 bit.
+// The place of the lowest 1 bit, and 64 if there is none.
 pub(crate) fn lowest_bit(n: usize) -> usize
-    requires { 0 < n }
+    ensures none { n ≡ 0 → result ≡ 64 }
     ensures below { n % 2 ^ result ≡ 0 }
-    ensures here { bit n result ≡ true }
-    ensures power { result < levels (n + 1) }
-    ensures within { result < 64 }
+    ensures here { 0 < n → bit n result ≡ true }
+    ensures power { 0 < n → result < levels (n + 1) }
+    ensures place { 0 < n → result < 64 }
+    ensures within { result ≤ 64 }
 {
     n.trailing_zeros() as usize
 }

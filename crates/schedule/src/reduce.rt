@@ -8,101 +8,102 @@ ghost use Rattle.schedule.specs.Part.{tree, delivered, one_of};
 ghost use Rattle.std.specs.List.{slice_get};
 
 use crate::label;
-use crate::powers::{above, below, ceil_log2, lowest_bit};
+use crate::member::Member;
+use crate::part::Part;
+use crate::powers::{ceil_log2, lowest_bit};
 use programme::{Action, Merge};
+use std::cmp::Ordering;
 
-// How many values the rank takes in the tree.
-fn takes(ranks: usize, rank: usize) -> usize
-    requires { rank < ranks }
-    ensures is { result ≡ takes (tree ranks rank) }
-    ensures above { result ≤ levels (ranks - rank) }
-    ensures within { result ≤ 64 }
-{
-    let end = ceil_log2(ranks - rank);
-    if rank == 0 {
-        end
-    } else {
-        end.min(lowest_bit(rank))
+#[derive(Clone, Copy)]
+pub(crate) struct Reduce {
+    pub(crate) member: Member,
+    pub(crate) root: usize,
+}
+
+impl Reduce {
+    // How many values the rank takes in the tree.
+    fn takes(self) -> usize
+        ensures is { result ≡ takes (tree self.member.ranks self.member.rank) }
+        ensures above { result ≤ levels (self.member.ranks - self.member.rank) }
+        ensures within { result ≤ 64 }
+    {
+        self.member.steps_up().min(lowest_bit(self.member.rank))
+    }
+
+    fn tree_length(self) -> usize
+        ensures is { result ≡ length (tree self.member.ranks self.member.rank) }
+        ensures within { result ≤ 65 }
+    {
+        let takes = self.takes();
+        if self.member.rank == 0 {
+            takes
+        } else {
+            takes + 1
+        }
+    }
+
+    fn tree_action(self, index: usize) -> Option<Action>
+        ensures { result ≡ slice_get (tree self.member.ranks self.member.rank) index }
+    {
+        let takes = self.takes();
+        if index < takes {
+            Some(Action::Take {
+                from: self.member.above(index),
+                label: index as u32,
+                merge: Merge::After,
+            })
+        } else if index == takes && self.member.rank > 0 {
+            let k = lowest_bit(self.member.rank);
+            Some(Action::Send {
+                to: self.member.below(k),
+                label: k as u32,
+            })
+        } else {
+            None
+        }
+    }
+
+    // What brings the result from rank 0 to another root.
+    fn delivery(self) -> Option<Action>
+        ensures { delivered self.root self.member.rank ≡ one_of result }
+    {
+        if self.root == 0 {
+            None
+        } else if self.member.rank == 0 {
+            Some(Action::Send {
+                to: self.root,
+                label: label::DELIVER,
+            })
+        } else if self.member.rank == self.root {
+            Some(Action::Take {
+                from: 0,
+                label: label::DELIVER,
+                merge: Merge::Replace,
+            })
+        } else {
+            None
+        }
     }
 }
 
-fn tree_length(ranks: usize, rank: usize) -> usize
-    requires { rank < ranks }
-    ensures is { result ≡ length (tree ranks rank) }
-    ensures within { result ≤ 65 }
-{
-    let takes = takes(ranks, rank);
-    if rank == 0 { takes } else { takes + 1 }
-}
+impl Part for Reduce {
+    ghost actions = { λ s. reduce s.member.ranks s.root s.member.rank };
 
-fn tree_action(ranks: usize, rank: usize, index: usize) -> Option<Action>
-    requires { rank < ranks }
-    ensures { result ≡ slice_get (tree ranks rank) index }
-{
-    let takes = takes(ranks, rank);
-    if index < takes {
-        Some(Action::Take {
-            from: above(ranks, rank, index),
-            label: index as u32,
-            merge: Merge::After,
-        })
-    } else if rank == 0 {
-        None
-    } else if index == takes {
-        let k = lowest_bit(rank);
-        Some(Action::Send {
-            to: below(rank, k),
-            label: k as u32,
-        })
-    } else {
-        None
+    fn action(self, index: usize) -> Option<Action> {
+        let end = self.tree_length();
+        match index.cmp(&end) {
+            Ordering::Less => self.tree_action(index),
+            Ordering::Equal => self.delivery(),
+            Ordering::Greater => None,
+        }
     }
-}
 
-// What brings the result from rank 0 to another root.
-fn delivery(root: usize, rank: usize) -> Option<Action>
-    ensures { delivered root rank ≡ one_of result }
-{
-    if root == 0 {
-        None
-    } else if rank == 0 {
-        Some(Action::Send {
-            to: root,
-            label: label::DELIVER,
-        })
-    } else if rank == root {
-        Some(Action::Take {
-            from: 0,
-            label: label::DELIVER,
-            merge: Merge::Replace,
-        })
-    } else {
-        None
-    }
-}
-
-pub(crate) fn action(ranks: usize, root: usize, rank: usize, index: usize) -> Option<Action>
-    requires { rank < ranks }
-    ensures { result ≡ slice_get (reduce ranks root rank) index }
-{
-    let end = tree_length(ranks, rank);
-    if index < end {
-        tree_action(ranks, rank, index)
-    } else if index == end {
-        delivery(root, rank)
-    } else {
-        None
-    }
-}
-
-pub(crate) fn length(ranks: usize, root: usize, rank: usize) -> usize
-    requires { rank < ranks }
-    ensures { result ≡ length (reduce ranks root rank) }
-{
-    let end = tree_length(ranks, rank);
-    match delivery(root, rank) {
-        Some(_) => end + 1,
-        None => end,
+    fn length(self) -> usize {
+        let end = self.tree_length();
+        match self.delivery() {
+            Some(_) => end + 1,
+            None => end,
+        }
     }
 }
 

@@ -1,36 +1,26 @@
-use Rattle.std.proofs.Common.{arith}
+use Rattle.std.proofs.Common.{rules, arith}
+use Rattle.std.proofs.lemmas.Grind.{common_steps}
 use Rattle.programme.specs.Programme.{scan, exscan}
+use Rattle.schedule.proofs.Answered.{other}
+use Rattle.schedule.proofs.Spreads.{numbered}
 use Rattle.schedule.proofs.Schedule.action.Goals as goal
-use Rattle.schedule.proofs.Answered.{at, other}
 
-pub returns-in-Broadcast : goal.returns-in-Broadcast
-returns-in-Broadcast c =
-    let e = at c.args.self.now.collective _ c.args.self.now.ranks c.args.rank c.args.index _ c.in-Broadcast.is c.action.ensures in
-    record { here = λ l. e; past = λ l. absurd (omega arith); other = other _ _ _ _ _ c.args.self.now.allowed c.if-rank-self.false e }
+pub returns-in-Broadcast-clause-other : goal.returns-in-Broadcast-clause-other
+returns-in-Broadcast-clause-other c = other c.args.self.now.collective _ _ c.args.index _ c.args.self.now.allowed (omega arith) (grind (arith, common_steps, numbered))
 
-pub returns-in-Gather : goal.returns-in-Gather
-returns-in-Gather c =
-    let e = at c.args.self.now.collective _ c.args.self.now.ranks c.args.rank c.args.index _ c.in-Gather.is c.action-in-Gather.ensures in
-    record { here = λ l. e; past = λ l. absurd (omega arith); other = other _ _ _ _ _ c.args.self.now.allowed c.if-rank-self.false e }
+pub returns-in-Gather-clause-other : goal.returns-in-Gather-clause-other
+returns-in-Gather-clause-other c = other c.args.self.now.collective _ _ c.args.index _ c.args.self.now.allowed (omega arith) (search rules)
 
-pub returns-in-Reduce : goal.returns-in-Reduce
-returns-in-Reduce c =
-    let e = at c.args.self.now.collective _ c.args.self.now.ranks c.args.rank c.args.index _ c.in-Reduce.is c.action-in-Reduce.ensures in
-    record { here = λ l. e; past = λ l. absurd (omega arith); other = other _ _ _ _ _ c.args.self.now.allowed c.if-rank-self.false e }
+pub returns-in-Reduce-clause-other : goal.returns-in-Reduce-clause-other
+returns-in-Reduce-clause-other c = other c.args.self.now.collective _ _ c.args.index _ c.args.self.now.allowed (omega arith) (search rules)
 
-pub returns-in-Scan : goal.returns-in-Scan
+pub returns-in-Scan-clause-other : goal.returns-in-Scan-clause-other
 unfolding scan
-returns-in-Scan c =
-    let e = at c.args.self.now.collective _ c.args.self.now.ranks c.args.rank c.args.index _ c.in-Scan.is c.action-in-Scan.ensures in
-    record { here = λ l. e; past = λ l. absurd (omega arith); other = other _ _ _ _ _ c.args.self.now.allowed c.if-rank-self.false e }
+returns-in-Scan-clause-other c = other c.args.self.now.collective _ _ c.args.index _ c.args.self.now.allowed (omega arith) (grind (arith, common_steps))
 
-pub returns-in-Exscan : goal.returns-in-Exscan
+pub returns-in-Exscan-clause-other : goal.returns-in-Exscan-clause-other
 unfolding exscan
-returns-in-Exscan c =
-    let e = at c.args.self.now.collective _ c.args.self.now.ranks c.args.rank c.args.index _ c.in-Exscan.is c.action-in-Exscan.ensures in
-    record { here = λ l. e; past = λ l. absurd (omega arith); other = other _ _ _ _ _ c.args.self.now.allowed c.if-rank-self.false e }
+returns-in-Exscan-clause-other c = other c.args.self.now.collective _ _ c.args.index _ c.args.self.now.allowed (omega arith) (grind (arith, common_steps))
 
-pub returns-in-Allreduce : goal.returns-in-Allreduce
-returns-in-Allreduce c =
-    let e = at c.args.self.now.collective _ c.args.self.now.ranks c.args.rank c.args.index _ c.in-Allreduce.is c.action-in-Allreduce.ensures in
-    record { here = λ l. e; past = λ l. absurd (omega arith); other = other _ _ _ _ _ c.args.self.now.allowed c.if-rank-self.false e }
+pub returns-in-Allreduce-clause-other : goal.returns-in-Allreduce-clause-other
+returns-in-Allreduce-clause-other c = other c.args.self.now.collective _ _ c.args.index _ c.args.self.now.allowed (omega arith) (search rules)
