@@ -1,42 +1,54 @@
--- A step of an engine that is the plain machine's step leaves an engine that stands.
-use Rattle.std.proofs.Common.{◌≡◌, ℕ, eqb, sym, ap, ◌∙◌, subst}
-use Rattle.machine.specs.Operation.{Meaning}
-use Rattle.machine.specs.Network.{Network, waiting_in_all}
+-- A call that goes as the plain machine's step keeps an engine's invariant.
+use Rattle.std.proofs.Common.{◌≡◌, ℕ, Bool, eqb, List, [], sym, ap, subst}
+use Rattle.std.proofs.Math.Logic.{∥∥₁_map, ∥∥₁_elim}
+use Rattle.operation.specs.declared.Operation.{Ghosts as Operation}
+use Rattle.transport.specs.declared.Transport.{Ghosts as Transport}
+use Rattle.machine.specs.Operation.{Meaning, Lawful}
+use Rattle.machine.specs.Network.{Network, WellMade, waiting_in_all}
 use Rattle.machine.specs.Plain.{Plain, Call, Answer, step}
 use Rattle.machine.specs.Sound.{Good}
-use Rattle.machine.proofs.Reachable.{step_good}
-use Rattle.jobs.specs.Tables.{pending_jobs}
+use Rattle.machine.proofs.Reachable.{step_good, made_good}
+use Rattle.jobs.specs.declared.job.Job.{Job}
 use Rattle.engine.specs.declared.state.Engine.{Engine}
-use Rattle.engine.specs.Abs.{plain, Stands, Sound, Steps, AmongRanks}
+use Rattle.engine.specs.Fields.{with_jobs, AmongRanks, FieldsStand, Sound}
+use Rattle.engine.specs.Abs.{plain, Stands}
 
-module _ {O T E : Type 0} (op : O → Meaning E) (net : T → Network) (sound : T → Type 0) (before after : Engine O T E) where
-  -- where the schedules are for as many ranks as at the making
-  pub onward_among : (call : Call) (answer : Answer) → sound after.transport → after.clean ≡ before.clean
-      → ((origin : Network) → Stands op net sound origin before → AmongRanks origin.ranks (pending_jobs after.jobs))
-      → ((origin : Network) → Stands op net sound origin before → (answer, plain op net origin after) ≡ step (plain op net origin before) call)
-      → Steps op net sound before after call answer
-  onward_among call answer ok clean ranks steps origin h =
-      let e = steps origin h in (
+module _ {O T E : Type 0} {op : Operation O E} {t : Transport T} (e : Engine O T E op t) where
+  -- a fact with at most one proof holds of every engine, if it does whatever network the engine was made with
+  pub known : {P : Type 0} → IsProp P → ((origin : Network) → Stands origin e → P) → P
+  known one f = ∥∥₁_elim e.sound one (λ s. f s.origin s.stands)
+
+  -- a call with that answer leads to this network, so many jobs started and these pending
+  abbrev pub Leads : Call → Answer → Network → ℕ → List (Job E) → Type 0
+  Leads call answer net started js =
+      (origin : Network) → Stands origin e
+      → FieldsStand e.name (op.meaning e.operation) net started e.clean js origin
+      × ((answer, with_jobs e.name (op.meaning e.operation) origin net started js) ≡ step (plain origin e) call)
+
+  pub leads : (call : Call) (answer : Answer) (net : Network) (started : ℕ) (js : List (Job E))
+      → ((origin : Network) → Stands origin e → AmongRanks origin.ranks js)
+      → ((origin : Network) → Stands origin e → (answer, with_jobs e.name (op.meaning e.operation) origin net started js) ≡ step (plain origin e) call)
+      → Leads call answer net started js
+  leads call answer net started js ranks steps origin h =
+      let is = steps origin h in (
         record {
-          transport_sound = ok;
-          good = subst Good (sym (ap (λ (x : Answer × Plain E). x.1) e)) (step_good (plain op net origin before) h.good call);
-          clean_told = clean ∙ h.clean_told;
+          good = subst Good (sym (ap (λ (x : Answer × Plain E). x.1) is)) (step_good (plain origin e) h.good call);
+          clean_told = h.clean_told;
           same_ranks = ranks origin h;
         },
-        e,
+        is,
       )
 
-  -- where no schedule is new
-  pub onward : (call : Call) (answer : Answer) → sound after.transport → after.clean ≡ before.clean
-      → ((p : ℕ) → AmongRanks p (pending_jobs before.jobs) → AmongRanks p (pending_jobs after.jobs))
-      → ((origin : Network) → Stands op net sound origin before → (answer, plain op net origin after) ≡ step (plain op net origin before) call)
-      → Steps op net sound before after call answer
-  onward call answer ok clean ranks steps = onward_among call answer ok clean (λ origin h. ranks origin.ranks h.same_ranks) steps
+  pub stays_sound : {net : Network} {started : ℕ} {js : List (Job E)}
+      → ((origin : Network) → Stands origin e → FieldsStand e.name (op.meaning e.operation) net started e.clean js origin)
+      → ∥ Sound e.name (op.meaning e.operation) net started e.clean js ∥₁
+  stays_sound stands = ∥∥₁_map e.sound (λ s. record { origin = s.origin; stands = stands s.origin s.stands })
 
-  pub stays_sound : (call : Call) (answer : Answer) → Sound op net sound before → Steps op net sound before after call answer → Sound op net sound after
-  stays_sound call answer h steps = record { origin = h.origin; stands = (steps h.origin h.stands).0 }
-
-pub new_stands : {O T E : Type 0} (op : O → Meaning E) (net : T → Network) (sound : T → Type 0) (origin : Network) (e : Engine O T E)
-    → sound e.transport → Good (plain op net origin e) → e.clean ≡ eqb (waiting_in_all origin) 0 → AmongRanks origin.ranks (pending_jobs e.jobs)
-    → Stands op net sound origin e
-new_stands op net sound origin e a b c d = record { transport_sound = a; good = b; clean_told = c; same_ranks = d }
+-- a new engine stands
+pub new_stands : {E : Type 0} {m : Meaning E} {net : Network} {clean : Bool} {js : List (Job E)} (name : ℕ)
+    → Lawful m → WellMade net → clean ≡ eqb (waiting_in_all net) 0 → js ≡ [] → FieldsStand name m net 0 clean js net
+new_stands {m = m} {net = net} name lawful well told none = record {
+  good = subst Good (sym (ap (λ js. with_jobs name m net net 0 js) none)) (made_good name m net lawful well);
+  clean_told = told;
+  same_ranks = subst (AmongRanks net.ranks) (sym none) tt;
+}

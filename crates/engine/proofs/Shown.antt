@@ -1,13 +1,25 @@
 -- The place of a token's job, and the job that the plain machine shows.
-use Rattle.std.proofs.Common.{◌≡◌, ℕ, zero, suc, ◌+◌, ◌-◌, ◌<◌, ◌≤◌, cond, eqb, List, [], ◌∷◌, map, length, get_or, Some, None, Option, refl, inl, inr, arith}
+use Rattle.std.proofs.Common.{◌≡◌, ℕ, zero, suc, ◌+◌, ◌-◌, ◌<◌, ◌≤◌, eqb, List, [], ◌∷◌, map, length, get_or, Some, None, Option, refl, inl, inr, arith}
 use mathlib.Core.Option.{some, none}
 use Rattle.std.proofs.lemmas.Bool.{cases_Bool, eqb-true}
-use Rattle.machine.specs.Operation.{Meaning}
+use Rattle.operation.specs.declared.Operation.{Ghosts as Operation}
+use Rattle.transport.specs.declared.Transport.{Ghosts as Transport}
 use Rattle.machine.specs.Network.{Network}
 use Rattle.machine.specs.Plain.{numbered, shown}
+use Rattle.machine.proofs.Jobs.{found}
+use Rattle.machine.proofs.Keep.{width_fits, some_pending}
+use Rattle.machine.proofs.Places.{number_small}
 use Rattle.jobs.specs.declared.job.Job.{Job}
-use Rattle.jobs.specs.Tables.{job_of, place_from, place}
-use Rattle.engine.specs.Abs.{with_jobs, AmongRanks}
+use Rattle.jobs.specs.Tables.{job_of, pending_jobs, place_from, place}
+use Rattle.engine.specs.declared.state.Engine.{Engine}
+use Rattle.engine.specs.declared.token.Token.{Token}
+use Rattle.engine.specs.Fields.{AmongRanks}
+use Rattle.engine.specs.Abs.{plain, Stands, place_of}
+
+-- some element of a list that is not empty
+pub pick : {A : Type 0} (xs : List A) (k : ℕ) → k < length xs → A
+pick [] k h = absurd (omega arith)
+pick (x ∷ xs) k h = x
 
 module _ {E : Type 0} where
   pub record Placed (n k : ℕ) (js : List (Job E)) : Type 0 where
@@ -51,27 +63,41 @@ module _ {E : Type 0} where
   ranks_at p (j ∷ js) zero d h lt = h.0
   ranks_at p (j ∷ js) (suc k) d h lt = ranks_at p js k d h.1 (omega arith)
 
-  module _ (name : ℕ) (m : Meaning E) (origin net : Network) (started : ℕ) (js : List (Job E)) (token n : ℕ) where
-    -- no place: nothing is shown
-    pub not_shown : cond (eqb token name) (place n js) None ≡ None → shown (with_jobs name m origin net started js) token n ≡ none
-    not_shown e =
-        elim (cases_Bool (eqb token name)) [
-          | inl t ↦ rw t (none_from 0 n js (rw t at e))
-          | inr t ↦ rw t
-        ]
+module _ {O T E : Type 0} {op : Operation O E} {t : Transport T} (e : Engine O T E op t) (token : Token) where
+  -- no place: nothing is shown
+  pub not_shown : place_of e token ≡ None → (origin : Network) → shown (plain origin e) token.name token.number ≡ none
+  not_shown absent origin =
+      elim (cases_Bool (eqb token.name e.name)) [
+        | inl f ↦ rw f (none_from 0 token.number (pending_jobs e.jobs) (rw f at absent))
+        | inr f ↦ rw f
+      ]
 
-    pub record Seen (k : ℕ) : Type 0 where
-      pub at : Placed n k js
-      pub shown_is : (d : Job E) → shown (with_jobs name m origin net started js) token n ≡ some (job_of (get_or js k d))
+  pub record Seen (k : ℕ) : Type 0 where
+    pub at : Placed token.number k (pending_jobs e.jobs)
+    pub shown_is : (origin : Network) (d : Job E) → shown (plain origin e) token.name token.number ≡ some (job_of (get_or (pending_jobs e.jobs) k d))
 
-    pub seen : (k : ℕ) → cond (eqb token name) (place n js) None ≡ Some k → Seen k
-    seen k e =
-        elim (cases_Bool (eqb token name)) [
-          | inl t ↦
-              let h = placed n k js (rw t at e) in
-              record { at = h; shown_is = λ d. rw t (h.numbered_is d) }
-          | inr t ↦
-              let f : ◌≡◌ {A = Option ℕ} None (Some k) = rw t at e in
-              let z : ◌≡◌ {A = ℕ} 0 1 = cc in
-              absurd (omega arith)
-        ]
+  pub seen : (k : ℕ) → place_of e token ≡ Some k → Seen k
+  seen k shown =
+      elim (cases_Bool (eqb token.name e.name)) [
+        | inl f ↦
+            let h = placed token.number k (pending_jobs e.jobs) (rw f at shown) in
+            record { at = h; shown_is = λ origin d. rw f (h.numbered_is d) }
+        | inr f ↦
+            let g : ◌≡◌ {A = Option ℕ} None (Some k) = rw f at shown in
+            let z : ◌≡◌ {A = ℕ} 0 1 = cc in
+            absurd (omega arith)
+      ]
+
+  -- a token shows a place of a job
+  pub place_within : (k : ℕ) → place_of e token ≡ Some k → k < length (pending_jobs e.jobs)
+  place_within k at = (seen k at).at.within
+
+  module _ (k : ℕ) (at : place_of e token ≡ Some k) (origin : Network) (h : Stands origin e) where
+    numbered_is : numbered token.number (map job_of (pending_jobs e.jobs)) ≡ some (job_of (get_or (pending_jobs e.jobs) k (pick (pending_jobs e.jobs) k (place_within k at))))
+    numbered_is = (seen k at).at.numbered_is _
+
+    pub number_low : token.number ≤ 65535
+    number_low = number_small (plain origin e) h.good.sound token.number _ numbered_is
+
+    pub narrow : (op.meaning e.operation).width ≤ 6
+    narrow = width_fits (plain origin e) (h.good.sound.fits (some_pending token.number (map job_of (pending_jobs e.jobs)) (found token.number (map job_of (pending_jobs e.jobs)) _ numbered_is).among))

@@ -1,31 +1,37 @@
--- An engine in which an action of a rank is due.
-use Rattle.std.proofs.Common.{◌≡◌, ℕ, zero, suc, ◌+◌, ◌^◌, ◌<◌, ◌≤◌, max, true, List, [], ◌∷◌, ◌++◌, length, get_or, take, set, Some, None, sym, refl, ap, ◌∙◌, subst, arith}
-use mathlib.Core.Option.{some}
+-- What a turn comes to, by the action that is due.
+use Rattle.std.proofs.Common.{◌≡◌, ℕ, zero, suc, ◌+◌, ◌^◌, ◌<◌, ◌≤◌, max, true, List, [], ◌∷◌, ◌++◌, length, get_or, take, set, Some, None, Ok, Err, Option as Found, Result, IsOk, sym, refl, ap, ◌∙◌, subst, arith, rules}
 use Rattle.std.specs.List.{slice_get}
+use Rattle.std.proofs.lemmas.Bool.{le-ltb, lt-ltb}
+use Rattle.std.proofs.lemmas.List.{get_or_default, take_more_set}
+use denote.Struct.Props.{props}
+use Rattle.ranks.specs.Ranks.{most_ranks}
+use Rattle.operation.specs.declared.Operation.{Ghosts as Operation}
+use Rattle.transport.specs.declared.Transport.{Ghosts as Transport}
+use Rattle.transport.specs.Network as transport
+use Rattle.transport.specs.Network.{message, sending, send_reply}
+use Rattle.transport.specs.declared.Fault.{Fault}
 use Rattle.programme.specs.declared.Action.{Action}
 use Rattle.programme.specs.declared.Action.TheVariants.{Send, Take}
-use Rattle.schedule.specs.Collective.{actions_of}
-use Rattle.machine.specs.Operation.{Meaning}
 use Rattle.programme.specs.declared.Merge.{Merge}
 use Rattle.programme.specs.declared.Merge.TheVariants.{Replace, Keep, Before, After, Prefix}
-use Rattle.engine_parts.specs.declared.mail.Mail.{Mail as Letter}
-use Rattle.engine_parts.specs.Mail.{Legible, mail_in}
+use Rattle.schedule.specs.Collective.{actions_of}
+use Rattle.machine.specs.Operation.{Meaning}
 use Rattle.machine.specs.Network.{Network, Message, apart, with_taken}
-use Rattle.transport.specs.Network as transport
-use Rattle.machine.specs.Plain.{Plain, Answer, shown, tag_of, sent, took, waits, through, refused, no_job, bad_rank, turn, step}
+use Rattle.machine.specs.Plain.{Plain, Answer, tag_of, sent, took, waits, through, refused, no_job, bad_rank, turn, step}
 use Rattle.machine.specs.Job.{actions, rank_of}
 use Rattle.machine.proofs.Steps.{turn_no_job, turn_bad_rank, turn_through}
-use Rattle.std.proofs.lemmas.Bool.{le-ltb, lt-ltb}
-use Rattle.std.proofs.lemmas.List.{get_or_default}
-use Rattle.transport.specs.Network.{message, send_reply, done}
+use Rattle.engine_parts.specs.declared.mail.Mail.{Mail as Letter}
+use Rattle.engine_parts.specs.Mail.{Legible, Sent, mail_in, read_words, words_of}
 use Rattle.jobs.specs.declared.job.Job.{Job}
 use Rattle.jobs.specs.declared.job.RankState.{RankState}
 use Rattle.jobs.specs.Tables.{job_of, states, pending_jobs, with_sent, with_received}
 use Rattle.jobs.specs.Updates.{update}
 use Rattle.engine.specs.declared.state.Engine.{Engine}
 use Rattle.engine.specs.declared.token.Token.{Token}
-use Rattle.engine.specs.Abs.{plain, with_jobs, Stands, Due, place_of, AmongRanks, state_taken}
-use Rattle.engine.proofs.Shown.{Seen, seen, not_shown}
+use Rattle.engine.specs.Fields.{with_jobs, AmongRanks}
+use Rattle.engine.specs.Abs.{plain, Stands, Due, place_of, state_taken}
+use Rattle.engine.proofs.Onward.{known, Leads, leads}
+use Rattle.engine.proofs.Shown.{seen, not_shown, pick, place_within, number_low, narrow}
 use Rattle.engine.proofs.Turning as turning
 
 -- a change of one job that leaves its schedule
@@ -41,38 +47,22 @@ received_ranks r s Before at v i = refl
 received_ranks r s After at v i = refl
 received_ranks r s Prefix at v i = refl
 
--- some element of a list that is not empty
-pub pick : {A : Type 0} (xs : List A) (k : ℕ) → k < length xs → A
-pick [] k h = absurd (omega arith)
-pick (x ∷ xs) k h = x
-
 -- turns that alter nothing
-module _ {O T E : Type 0} (op : O → Meaning E) (net : T → Network) (sound : T → Type 0) (e : Engine O T E) (token : Token) (r : ℕ) where
-  pub no_job_step : place_of op net e token ≡ None → (origin : Network) → ◌≡◌ {A = Answer × Plain E} (refused no_job, plain op net origin e) (step (plain op net origin e) (turn token.name token.number r))
-  no_job_step none origin =
-      sym (turn_no_job (plain op net origin e) token.name token.number r
-      (not_shown e.name (op e.operation) origin (net e.transport) e.started (pending_jobs e.jobs) token.name token.number none))
+module _ {O T E : Type 0} {op : Operation O E} {t : Transport T} (e : Engine O T E op t) (token : Token) (r : ℕ) where
+  pub no_job_step : place_of e token ≡ None → (origin : Network) → ◌≡◌ {A = Answer × Plain E} (refused no_job, plain origin e) (step (plain origin e) (turn token.name token.number r))
+  no_job_step none origin = sym (turn_no_job (plain origin e) token.name token.number r (not_shown e token none origin))
 
-  module _ (k : ℕ) (at : place_of op net e token ≡ Some k) where
-    seen_here : (origin : Network) → Seen e.name (op e.operation) origin (net e.transport) e.started (pending_jobs e.jobs) token.name token.number k
-    seen_here origin = seen e.name (op e.operation) origin (net e.transport) e.started (pending_jobs e.jobs) token.name token.number k at
-
-    pub place_within : k < length (pending_jobs e.jobs)
-    place_within = (seen_here (net e.transport)).at.within
-
-    pub bad_rank_step : (net e.transport).ranks ≤ r → (origin : Network) → ◌≡◌ {A = Answer × Plain E} (refused bad_rank, plain op net origin e) (step (plain op net origin e) (turn token.name token.number r))
+  module _ (k : ℕ) (at : place_of e token ≡ Some k) where
+    pub bad_rank_step : (t.meaning e.transport).ranks ≤ r → (origin : Network) → ◌≡◌ {A = Answer × Plain E} (refused bad_rank, plain origin e) (step (plain origin e) (turn token.name token.number r))
     bad_rank_step high origin =
-        let d = pick (pending_jobs e.jobs) k place_within in
-        sym (turn_bad_rank (plain op net origin e) token.name token.number r (job_of (get_or (pending_jobs e.jobs) k d)) ((seen_here origin).shown_is d) (le-ltb r (net e.transport).ranks high))
+        let d = pick (pending_jobs e.jobs) k (place_within e token k at) in
+        sym (turn_bad_rank (plain origin e) token.name token.number r _ ((seen e token k at).shown_is origin d) (le-ltb r (t.meaning e.transport).ranks high))
 
     module _ (j : Job E) (j_is : (d : Job E) → j ≡ get_or (pending_jobs e.jobs) k d) where
-      pub job_ranks : (origin : Network) → Stands op net sound origin e → j.schedule.ranks ≡ (net e.transport).ranks
-      job_ranks origin h = turning.schedule_ranks e.name (op e.operation) origin (net e.transport) e.started (pending_jobs e.jobs) token.number k h.good h.same_ranks (seen_here origin).at j (j_is j)
-
-      pub due_from : (action : Action) → r < (net e.transport).ranks
+      pub due_from : (action : Action) → r < (t.meaning e.transport).ranks
           → ((s : RankState E) → Some action ≡ slice_get (actions_of j.schedule.collective j.schedule.ranks r) (get_or (states j) r s).done)
           → ((s : RankState E) → (get_or (states j) r s).done + 1 < 2 ^ 64)
-          → Due op net e token k r action
+          → Due e token k r action
       due_from action below next few = record {
         shown_at = at;
         below = below;
@@ -80,103 +70,141 @@ module _ {O T E : Type 0} (op : O → Meaning E) (net : T → Network) (sound : 
         few = λ d s. subst (λ i. (get_or (states i) r s).done + 1 < 2 ^ 64) (j_is d) (few s);
       }
 
-      pub through_step : r < (net e.transport).ranks
+      pub through_step : r < (t.meaning e.transport).ranks
           → ((s : RankState E) → None ≡ slice_get (actions_of j.schedule.collective j.schedule.ranks r) (get_or (states j) r s).done)
-          → (origin : Network) → Stands op net sound origin e
-          → ◌≡◌ {A = Answer × Plain E} (through, plain op net origin e) (step (plain op net origin e) (turn token.name token.number r))
+          → (origin : Network) → Stands origin e
+          → ◌≡◌ {A = Answer × Plain E} (through, plain origin e) (step (plain origin e) (turn token.name token.number r))
       through_step below next origin h =
-          let long = turning.states_long e.name (op e.operation) origin (net e.transport) e.started (pending_jobs e.jobs) token.number k h.good h.same_ranks (seen_here origin).at j (j_is j) in
-          let inside : r < length (states j) = omega arith in
+          let p = (t.meaning e.transport).ranks in
+          let m = op.meaning e.operation in
+          let inside : r < length (states j) = omega (arith, turning.states_long e token k at j j_is origin h) in
           let d = pick (states j) r inside in
-          let st : RankState E = get_or (states j) r d in
-          let st_is : st ≡ get_or (states j) r st = get_or_default (states j) r d st inside in
-          let p = (net e.transport).ranks in
-          let m = op e.operation in
-          let place = turning.next_is e.name m origin (net e.transport) e.started (pending_jobs e.jobs) token.number k h.good h.same_ranks (seen_here origin).at j (j_is j) r below st st_is None (sym (next d)) in
-          sym (turn_through (plain op net origin e) token.name token.number r (job_of j) ((seen_here origin).shown_is j ∙ ap (λ i. some (job_of i)) (sym (j_is j))) (lt-ltb r p below)
+          let place = turning.next_is e token k at j j_is origin h r below (get_or (states j) r d) (λ s. get_or_default (states j) r d s inside) None (sym (next d)) in
+          sym (turn_through (plain origin e) token.name token.number r (job_of j) (turning.shown_is e token k at j j_is origin h) (lt-ltb r p below)
           (turning.nth_none (actions p (job_of j) r) (rank_of m (job_of j) r).done place))
 
-module _ {O T E : Type 0} (op : O → Meaning E) (net : T → Network) (sound : T → Type 0) (e : Engine O T E) (token : Token) (k r : ℕ) (action : Action)
-    (due : Due op net e token k r action) (origin : Network) (h : Stands op net sound origin e) where
-  pub seen_at : Seen e.name (op e.operation) origin (net e.transport) e.started (pending_jobs e.jobs) token.name token.number k
-  seen_at = seen e.name (op e.operation) origin (net e.transport) e.started (pending_jobs e.jobs) token.name token.number k due.shown_at
+pub rank_low : {O T E : Type 0} {op : Operation O E} {t : Transport T} (e : Engine O T E op t) (r : ℕ) → r < (t.meaning e.transport).ranks → (origin : Network) → Stands origin e → r < 64
+rank_low e r below origin h = omega (arith, h.good.sound.same_ranks, h.good.well.few_ranks)
 
-  pub within : k < length (pending_jobs e.jobs)
-  within = seen_at.at.within
-
+-- what is known of a rank whose action is due, of the job and of the rank's state
+pub record Ready {E : Type 0} (m : Meaning E) (number r : ℕ) (j : Job E) (st : RankState E) : Type 0 where
   pub rank_low : r < 64
-  rank_low = omega (arith, due.below, h.good.sound.same_ranks, h.good.well.few_ranks)
+  pub number_low : number ≤ 65535
+  pub narrow : m.width ≤ 6
+  pub arrival_low : st.arrival ≤ 66
+  pub departure_low : st.departure ≤ 66
+  pub value_proper : m.proper st.value ≡ true
+  pub sent_few : j.sent + 1 < 2 ^ 64
 
-  module _ (j : Job E) (j_is : j ≡ get_or (pending_jobs e.jobs) k j) (st : RankState E) (st_is : st ≡ get_or (states j) r st) where
-    pub shown_is : shown (plain op net origin e) token.name token.number ≡ some (job_of j)
-    shown_is = seen_at.shown_is j ∙ ap (λ i. some (job_of i)) (sym j_is)
+module _ {O T E : Type 0} {op : Operation O E} {t : Transport T} (e : Engine O T E op t) (token : Token) (k r : ℕ) (action : Action) (due : Due e token k r action)
+    (j : Job E) (j_is : (d : Job E) → j ≡ get_or (pending_jobs e.jobs) k d) (st : RankState E) (st_is : (d : RankState E) → st ≡ get_or (states j) r d) where
+  pub ready : Ready (op.meaning e.operation) token.number r j st
+  ready = known e (hlevel props) (λ o h.
+      let at = due.shown_at in
+      let clocks = turning.clocks_small e token k at j j_is o h r due.below st st_is in
+      record {
+        rank_low = rank_low e r due.below o h;
+        number_low = number_low e token k at o h;
+        narrow = narrow e token k at o h;
+        arrival_low = clocks.0;
+        departure_low = clocks.1;
+        value_proper = turning.value_proper e token k at j j_is o h r due.below st st_is;
+        sent_few = turning.sent_few e token k at j j_is o h r due.below st st_is;
+      })
 
-    pub state_is : get_or (states (get_or (pending_jobs e.jobs) k j)) r st ≡ st
-    state_is = ap (λ i. get_or (states i) r st) (sym j_is) ∙ sym st_is
+  state_is : get_or (states (get_or (pending_jobs e.jobs) k j)) r st ≡ st
+  state_is = ap (λ i. get_or (states i) r st) (sym (j_is j)) ∙ sym (st_is st)
 
-    pub next_at : slice_get (actions_of j.schedule.collective j.schedule.ranks r) st.done ≡ Some action
-    next_at =
-        let P : Job E → RankState E → Type 0 = λ i s. slice_get (actions_of i.schedule.collective i.schedule.ranks r) s.done ≡ Some action in
-        subst (λ i. P i st) (sym j_is) (subst (P (get_or (pending_jobs e.jobs) k j)) state_is (due.next j st))
+  pub next_at : slice_get (actions_of j.schedule.collective j.schedule.ranks r) st.done ≡ Some action
+  next_at =
+      let P : Job E → RankState E → Type 0 = λ i s. slice_get (actions_of i.schedule.collective i.schedule.ranks r) s.done ≡ Some action in
+      subst (λ i. P i st) (sym (j_is j)) (subst (P (get_or (pending_jobs e.jobs) k j)) state_is (due.next j st))
 
-    pub done_few : st.done + 1 < 2 ^ 64
-    done_few = subst (λ s. s.done + 1 < 2 ^ 64) state_is (due.few j st)
+  pub done_few : st.done + 1 < 2 ^ 64
+  done_few = subst (λ s. s.done + 1 < 2 ^ 64) state_is (due.few j st)
 
-    pub clocks : (st.arrival ≤ 66) × (st.departure ≤ 66)
-    clocks = turning.clocks_small e.name (op e.operation) origin (net e.transport) e.started (pending_jobs e.jobs) token.number k h.good h.same_ranks seen_at.at j j_is r due.below st st_is
+-- a send that is due
+module _ {O T E : Type 0} {op : Operation O E} {t : Transport T} (e : Engine O T E op t) (token : Token) (k r : ℕ) (to label : ℕ) (due : Due e token k r (Send to label))
+    (j : Job E) (j_is : (d : Job E) → j ≡ get_or (pending_jobs e.jobs) k d) (st : RankState E) (st_is : (d : RankState E) → st ≡ get_or (states j) r d) where
+  next_send : slice_get (actions_of j.schedule.collective j.schedule.ranks r) st.done ≡ Some (Send to label)
+  next_send = next_at e token k r (Send to label) due j j_is st st_is
 
-    pub number_low : token.number ≤ 65535
-    number_low = turning.number_low e.name (op e.operation) origin (net e.transport) e.started (pending_jobs e.jobs) token.number k h.good h.same_ranks seen_at.at j j_is r due.below st st_is
-
-    pub value_proper : (op e.operation).proper st.value ≡ true
-    value_proper = turning.value_proper e.name (op e.operation) origin (net e.transport) e.started (pending_jobs e.jobs) token.number k h.good h.same_ranks seen_at.at j j_is r due.below st st_is
-
-    pub sent_few : (d : Job E) → (get_or (pending_jobs e.jobs) k d).sent + 1 < 2 ^ 64
-    sent_few d =
-        subst (λ i. i.sent + 1 < 2 ^ 64) (j_is ∙ get_or_default (pending_jobs e.jobs) k j d within)
-        (turning.sent_few e.name (op e.operation) origin (net e.transport) e.started (pending_jobs e.jobs) token.number k h.good h.same_ranks seen_at.at j j_is r due.below st st_is)
-
-    pub narrow : (op e.operation).width ≤ 6
-    narrow = turning.narrow e.name (op e.operation) origin (net e.transport) e.started (pending_jobs e.jobs) token.number k h.good h.same_ranks seen_at.at j j_is r due.below st st_is
-
-module _ {O T E : Type 0} (op : O → Meaning E) (net : T → Network) (sound : T → Type 0) (e : Engine O T E) (token : Token) (k r : ℕ) (to label : ℕ)
-    (due : Due op net e token k r (Send to label)) (origin : Network) (h : Stands op net sound origin e) (j : Job E) (j_is : j ≡ get_or (pending_jobs e.jobs) k j) (st : RankState E) (st_is : st ≡ get_or (states j) r st) where
   pub label_low : label < 16
-  label_low = turning.label_low e.name (op e.operation) origin (net e.transport) e.started (pending_jobs e.jobs) token.number k h.good h.same_ranks (seen_at op net sound e token k r (Send to label) due origin h).at j j_is r due.below st st_is token.name (shown_is op net sound e token k r (Send to label) due origin h j j_is st st_is) to label (next_at op net sound e token k r (Send to label) due origin h j j_is st st_is)
+  label_low = known e (hlevel props) (λ o h. turning.label_low e token k due.shown_at j j_is o h r due.below st st_is to label next_send)
 
   abbrev pub letter : Message
-  letter = message (tag_of token.number label) ((max st.departure st.arrival + 1) ∷ (op e.operation).pack st.value)
+  letter = message (tag_of token.number label) ((max st.departure st.arrival + 1) ∷ (op.meaning e.operation).pack st.value)
 
-  pub goes : send_reply (net e.transport) r to letter.words ≡ done
-  goes = turning.goes e.name (op e.operation) origin (net e.transport) e.started (pending_jobs e.jobs) token.number k h.good h.same_ranks (seen_at op net sound e token k r (Send to label) due origin h).at j j_is r due.below st st_is token.name (shown_is op net sound e token k r (Send to label) due origin h j j_is st st_is) to label (next_at op net sound e token k r (Send to label) due origin h j j_is st st_is)
+  -- no reason to refuse it is left
+  pub is_sent : (o : Result (Unit {0}) Fault) → sending o ≡ send_reply (t.meaning e.transport) r to letter.words → IsOk o
+  is_sent (Ok _) answer = search rules
+  is_sent (Err f) answer = absurd (known e (λ x y. absurd x) (λ o h.
+      let refuses = answer ∙ turning.goes e token k due.shown_at j j_is o h r due.below st st_is to label next_send in
+      let z : ◌≡◌ {A = ℕ} 0 1 = cc in
+      omega arith))
 
-  pub sent_step : (net' : Network) → net' ≡ transport.after_send (net e.transport) r to letter
-      → (js' : List (Job E)) → js' ≡ update k (with_sent r (turning.departed st)) (pending_jobs e.jobs)
-      → ◌≡◌ {A = Answer × Plain E} (sent, with_jobs e.name (op e.operation) origin net' e.started js') (step (plain op net origin e) (turn token.name token.number r))
-  sent_step = turning.sent_step e.name (op e.operation) origin (net e.transport) e.started (pending_jobs e.jobs) token.number k h.good h.same_ranks (seen_at op net sound e token k r (Send to label) due origin h).at j j_is r due.below st st_is token.name (shown_is op net sound e token k r (Send to label) due origin h j j_is st st_is) to label (next_at op net sound e token k r (Send to label) due origin h j j_is st st_is)
+  pub sends : (net : Network) → net ≡ transport.after_send (t.meaning e.transport) r to letter
+      → (js : List (Job E)) → js ≡ update k (with_sent r (turning.departed st)) (pending_jobs e.jobs)
+      → Leads e (turn token.name token.number r) sent net e.started js
+  sends net net-is js js-is =
+      leads e (turn token.name token.number r) sent net e.started js
+      (λ o h. subst (AmongRanks o.ranks) (sym js-is) (ranks_update o.ranks k (with_sent r (turning.departed st)) (λ i. refl) (pending_jobs e.jobs) h.same_ranks))
+      (λ o h. turning.sent_step e token k due.shown_at j j_is o h r due.below st st_is to label next_send net net-is js js-is)
 
-module _ {O T E : Type 0} (op : O → Meaning E) (net : T → Network) (sound : T → Type 0) (e : Engine O T E) (token : Token) (k r : ℕ) (from label : ℕ) (merge : Merge)
-    (due : Due op net e token k r (Take from label merge)) (origin : Network) (h : Stands op net sound origin e) (j : Job E) (j_is : j ≡ get_or (pending_jobs e.jobs) k j) (st : RankState E) (st_is : st ≡ get_or (states j) r st) where
+-- a take that is due
+module _ {O T E : Type 0} {op : Operation O E} {t : Transport T} (e : Engine O T E op t) (token : Token) (k r : ℕ) (from label : ℕ) (merge : Merge) (due : Due e token k r (Take from label merge))
+    (j : Job E) (j_is : (d : Job E) → j ≡ get_or (pending_jobs e.jobs) k d) (st : RankState E) (st_is : (d : RankState E) → st ≡ get_or (states j) r d) where
+  next_take : slice_get (actions_of j.schedule.collective j.schedule.ranks r) st.done ≡ Some (Take from label merge)
+  next_take = next_at e token k r (Take from label merge) due j j_is st st_is
+
+  abbrev first : Found Message
+  first = transport.oldest (tag_of token.number label) ((t.meaning e.transport).arrived from r)
+
   pub take_label : label < 16
-  take_label = turning.take_label e.name (op e.operation) origin (net e.transport) e.started (pending_jobs e.jobs) token.number k h.good h.same_ranks (seen_at op net sound e token k r (Take from label merge) due origin h).at j j_is r due.below st st_is token.name (shown_is op net sound e token k r (Take from label merge) due origin h j j_is st st_is) from label merge (next_at op net sound e token k r (Take from label merge) due origin h j j_is st st_is)
+  take_label = known e (hlevel props) (λ o h. turning.take_label e token k due.shown_at j j_is o h r due.below st st_is from label merge next_take)
 
-  pub pair : apart (net e.transport).ranks from r ≡ true
-  pair = turning.pair e.name (op e.operation) origin (net e.transport) e.started (pending_jobs e.jobs) token.number k h.good h.same_ranks (seen_at op net sound e token k r (Take from label merge) due origin h).at j j_is r due.below st st_is token.name (shown_is op net sound e token k r (Take from label merge) due origin h j j_is st st_is) from label merge (next_at op net sound e token k r (Take from label merge) due origin h j j_is st st_is)
+  pub pair : apart (t.meaning e.transport).ranks from r ≡ true
+  pair = known e (hlevel props) (λ o h. turning.pair e token k due.shown_at j j_is o h r due.below st st_is from label merge next_take)
 
-  pub legible : Legible (op e.operation) (transport.oldest (tag_of token.number label) ((net e.transport).arrived from r))
-  legible = turning.legible e.name (op e.operation) origin (net e.transport) e.started (pending_jobs e.jobs) token.number k h.good h.same_ranks (seen_at op net sound e token k r (Take from label merge) due origin h).at j j_is r due.below st st_is token.name (shown_is op net sound e token k r (Take from label merge) due origin h j j_is st st_is) from label merge (next_at op net sound e token k r (Take from label merge) due origin h j j_is st st_is)
+  pub legible : Legible (op.meaning e.operation) first
+  legible = by_message first refl
+    where
+      m : Meaning E
+      m = op.meaning e.operation
 
-  pub waits_step : mail_in (op e.operation) (transport.oldest (tag_of token.number label) ((net e.transport).arrived from r)) ≡ None
-      → ◌≡◌ {A = Answer × Plain E} (waits, plain op net origin e) (step (plain op net origin e) (turn token.name token.number r))
-  waits_step = turning.waits_step e.name (op e.operation) origin (net e.transport) e.started (pending_jobs e.jobs) token.number k h.good h.same_ranks (seen_at op net sound e token k r (Take from label merge) due origin h).at j j_is r due.below st st_is token.name (shown_is op net sound e token k r (Take from label merge) due origin h j j_is st st_is) from label merge (next_at op net sound e token k r (Take from label merge) due origin h j j_is st st_is)
+      read_at : (w : Message) → first ≡ Some w → (origin : Network) → Stands origin e → turning.Letters m w
+      read_at w f o h = turning.reads e token k due.shown_at j j_is o h r due.below st st_is from label merge next_take w f
+
+      by_letter : (w : Message) → first ≡ Some w → (i : Found (Letter E)) → read_words m w.words ≡ i → Sent m w.words
+      by_letter w f None g = absurd (known e (λ x y. absurd x) (λ o h. let q = (read_at w f o h).read in let z : ◌≡◌ {A = ℕ} 0 1 = cc in omega arith))
+      by_letter w f (Some mail) g = record {
+        mail = mail;
+        proper = known e (hlevel props) (λ o h. let q = read_at w f o h in let same : q.mail ≡ mail = cc in subst (λ i. m.proper i.value ≡ true) same q.sent.0);
+        words = known e (hlevel props) (λ o h. let q = read_at w f o h in let same : q.mail ≡ mail = cc in q.sent.1 ∙ ap (words_of m) same);
+      }
+
+      by_message : (i : Found Message) → first ≡ i → Legible m i
+      by_message None f = tt
+      by_message (Some w) f = by_letter w f (read_words m w.words) refl
+
+  pub waits_on : mail_in (op.meaning e.operation) first ≡ None → (net : Network) → net ≡ t.meaning e.transport → Leads e (turn token.name token.number r) waits net e.started (pending_jobs e.jobs)
+  waits_on none net net-is =
+      leads e (turn token.name token.number r) waits net e.started (pending_jobs e.jobs) (λ o h. h.same_ranks)
+      (λ o h. ap (λ n. (waits, with_jobs e.name (op.meaning e.operation) o n e.started (pending_jobs e.jobs))) net-is
+      ∙ turning.waits_step e token k due.shown_at j j_is o h r due.below st st_is from label merge next_take none)
 
   module _ (mail : Letter E) where
     pub room_kept : merge ≡ Keep → st.done < 64
-    room_kept = turning.room_kept e.name (op e.operation) origin (net e.transport) e.started (pending_jobs e.jobs) token.number k h.good h.same_ranks (seen_at op net sound e token k r (Take from label merge) due origin h).at j j_is r due.below st st_is token.name (shown_is op net sound e token k r (Take from label merge) due origin h j j_is st st_is) from label merge (next_at op net sound e token k r (Take from label merge) due origin h j j_is st st_is) mail
+    room_kept keep = known e (hlevel props) (λ o h. turning.room_kept e token k due.shown_at j j_is o h r due.below st st_is from label merge next_take mail keep)
 
-    pub took_step : Some mail ≡ mail_in (op e.operation) (transport.oldest (tag_of token.number label) ((net e.transport).arrived from r))
-        → (net' : Network) → net' ≡ with_taken from r (tag_of token.number label) (net e.transport)
-        → (js' : List (Job E)) → js' ≡ update k (with_received r (state_taken (op e.operation).join merge mail st) merge st.done mail.value) (pending_jobs e.jobs)
-        → (merge ≡ Keep → take (st.done + 1) (set j.kept st.done mail.value) ≡ take st.done j.kept ++ (mail.value ∷ []))
-        → ◌≡◌ {A = Answer × Plain E} (took, with_jobs e.name (op e.operation) origin net' e.started js') (step (plain op net origin e) (turn token.name token.number r))
-    took_step = turning.took_step e.name (op e.operation) origin (net e.transport) e.started (pending_jobs e.jobs) token.number k h.good h.same_ranks (seen_at op net sound e token k r (Take from label merge) due origin h).at j j_is r due.below st st_is token.name (shown_is op net sound e token k r (Take from label merge) due origin h j j_is st st_is) from label merge (next_at op net sound e token k r (Take from label merge) due origin h j j_is st st_is) mail
+    pub takes : Some mail ≡ mail_in (op.meaning e.operation) first
+        → (net : Network) → net ≡ with_taken from r (tag_of token.number label) (t.meaning e.transport)
+        → (js : List (Job E)) → js ≡ update k (with_received r (state_taken (op.meaning e.operation).join merge mail st) merge st.done mail.value) (pending_jobs e.jobs)
+        → length j.kept ≡ most_ranks
+        → Leads e (turn token.name token.number r) took net e.started js
+    takes found-is net net-is js js-is long =
+        let new = state_taken (op.meaning e.operation).join merge mail st in
+        let front : merge ≡ Keep → take (st.done + 1) (set j.kept st.done mail.value) ≡ take st.done j.kept ++ (mail.value ∷ []) = λ keep. take_more_set j.kept st.done mail.value (omega (arith, room_kept keep, long)) in
+        leads e (turn token.name token.number r) took net e.started js
+        (λ o h. subst (AmongRanks o.ranks) (sym js-is) (ranks_update o.ranks k (with_received r new merge st.done mail.value) (received_ranks r new merge st.done mail.value) (pending_jobs e.jobs) h.same_ranks))
+        (λ o h. turning.took_step e token k due.shown_at j j_is o h r due.below st st_is from label merge next_take mail found-is net net-is js js-is front)

@@ -1,9 +1,10 @@
 -- A start, test by test, and the new job.
-use Rattle.std.proofs.Common.{◌≡◌, ℕ, zero, suc, ◌+◌, ◌-◌, ◌*◌, ◌<◌, ◌≤◌, Bool, true, false, cond, ◌||◌, eqb, ltb, leb, List, [], ◌∷◌, ◌++◌, map, length, take, drop, replicate, Ok, Err, Result, sym, refl, ap, ◌∙◌, subst, ap₂, arith, length-append}
+use Rattle.std.proofs.Common.{◌≡◌, ℕ, zero, suc, ◌+◌, ◌-◌, ◌*◌, ◌<◌, ◌≤◌, Bool, true, false, cond, ◌||◌, eqb, ltb, leb, List, [], ◌∷◌, ◌++◌, map, length, take, drop, replicate, Ok, Err, Result, sym, refl, ap, ◌∙◌, subst, ap₂, arith}
 use mathlib.Core.Option.{none, some}
 use lib.Seq.{take-append_seam}
-use Rattle.std.proofs.lemmas.List.{length-replicate, length-map, take-map, map-append}
+use Rattle.std.proofs.lemmas.List.{length-map, take-map, map-append}
 use Rattle.std.proofs.lemmas.Bool.{le-ltb, lt-ltb, le-leb, lt-leb, eq-eqb, ne_eqb, or_left}
+use denote.Struct.Props.{props}
 use Rattle.ranks.specs.Ranks.{most_ranks}
 use Rattle.programme.specs.Rank.{Rank, fresh}
 use Rattle.programme.specs.Formula.{messages}
@@ -11,6 +12,8 @@ use Rattle.schedule.specs.declared.Collective.{Collective}
 use Rattle.schedule.specs.declared.Collective.TheVariants.{Broadcast, Gather, Reduce, Scan, Exscan, Allreduce}
 use Rattle.schedule.specs.declared.Schedule.{Schedule}
 use Rattle.schedule.specs.Collective.{kind_of, root_of, messages_of}
+use Rattle.operation.specs.declared.Operation.{Ghosts as Operation}
+use Rattle.transport.specs.declared.Transport.{Ghosts as Transport}
 use Rattle.machine.specs.Operation.{Meaning, BlockFault}
 use Rattle.machine.specs.Network.{Network}
 use Rattle.machine.specs.Job as machine
@@ -21,11 +24,11 @@ use Rattle.engine_parts.specs.declared.inputs.BadBlock.{BadBlock}
 use Rattle.engine_parts.specs.Inputs as parts
 use Rattle.engine_parts.proofs.Blocks.{inputs_elements}
 use Rattle.jobs.specs.declared.job.Job.{Job}
-use Rattle.jobs.specs.declared.job.Progress.{Progress}
-use Rattle.jobs.specs.Tables.{job_of, first_job, messages_in, numbered_from, rank_in, keeps, state_of, pending_jobs}
-use Rattle.jobs.proofs.States.{states_alike}
+use Rattle.jobs.specs.Tables.{job_of, first_job, messages_in, numbered_from, rank_in, keeps, first_state, pending_jobs}
 use Rattle.engine.specs.declared.state.Engine.{Engine}
-use Rattle.engine.specs.Abs.{plain, with_jobs, Stands, AmongRanks}
+use Rattle.engine.specs.Fields.{with_jobs, AmongRanks}
+use Rattle.engine.specs.Abs.{plain, Stands}
+use Rattle.engine.proofs.Onward.{known, Leads, leads}
 
 -- the root that a collective names is the one that the machine goes by
 pub root_same : (c : Collective) → root_for (kind_of c) (root_of c) ≡ root_of c
@@ -80,8 +83,7 @@ module _ {E : Type 0} where
   padded_ok m n (Err a) xs e = let z : ◌≡◌ {A = ℕ} 0 1 = cc in absurd (omega arith)
 
   -- ranks that hold their inputs
-  at_first : (c : Collective) (kept : List E) (u : E) (r : ℕ) (ys : List E)
-      → numbered_from (rank_in c kept) r (map (state_of (record { done = 0; prefix = u; arrival = 0; departure = 0 })) ys) ≡ map (fresh u) ys
+  at_first : (c : Collective) (kept : List E) (u : E) (r : ℕ) (ys : List E) → numbered_from (rank_in c kept) r (map (first_state u) ys) ≡ map (fresh u) ys
   at_first c kept u r [] = refl
   at_first c kept u r (y ∷ ys) = ap₂ (λ (l : List E) more. record { done = 0; value = y; prefix = u; kept = l; arrival = 0; departure = 0 } ∷ more) (none_kept (keeps c r) kept) (at_first c kept u (suc r) ys)
     where
@@ -94,27 +96,27 @@ module _ {E : Type 0} where
   messages_same p [] h = refl
   messages_same p (j ∷ js) h = ap₂ ◌+◌ (ap (messages_of j.schedule.collective) h.0) (messages_same p js h.1)
 
-module _ {O T E : Type 0} (op : O → Meaning E) (net : T → Network) (sound : T → Type 0) (e : Engine O T E) (origin : Network) (h : Stands op net sound origin e) (c : Collective) (words : List ℕ) where
+pub ranks_few : {O T E : Type 0} {op : Operation O E} {t : Transport T} (e : Engine O T E op t) → (t.meaning e.transport).ranks ≤ most_ranks
+ranks_few e = known e (hlevel props) (λ o h. omega (arith, h.good.sound.same_ranks, h.good.well.few_ranks))
+
+module _ {O T E : Type 0} {op : Operation O E} {t : Transport T} (e : Engine O T E op t) (origin : Network) (h : Stands origin e) (c : Collective) (words : List ℕ) where
   abbrev s : Plain E
-  s = plain op net origin e
+  s = plain origin e
 
   abbrev js : List (Job E)
   js = pending_jobs e.jobs
 
   abbrev p : ℕ
-  p = (net e.transport).ranks
+  p = (t.meaning e.transport).ranks
 
   abbrev m : Meaning E
-  m = op e.operation
+  m = op.meaning e.operation
 
   abbrev Comes : Answer → Type 0
   Comes a = ◌≡◌ {A = Answer × Plain E} (a, s) (step s (start (kind_of c) (root_of c) words))
 
   many : length s.jobs ≡ length js
   many = length-map js job_of
-
-  pub ranks_few : p ≤ most_ranks
-  ranks_few = omega (arith, h.good.sound.same_ranks, h.good.well.few_ranks)
 
   pub unfit_step : false ≡ fit s → Comes (refused unfit)
   unfit_step f = sym (start_unfit s (kind_of c) (root_of c) words (sym f))
@@ -185,27 +187,22 @@ module _ {O T E : Type 0} (op : O → Meaning E) (net : T → Network) (sound : 
                 xs_front : take p xs ≡ ys
                 xs_front = ap (take p) front.padding ∙ ap (λ n. take n (ys ++ replicate (64 - p) m.unit)) (sym items_many) ∙ take-append_seam ys (replicate (64 - p) m.unit)
 
-                xs_long : length xs ≤ 64
-                xs_long = omega (arith, ap length front.padding, length-append ys (replicate (64 - p) m.unit), length-replicate (64 - p) m.unit, items_many, ranks_few)
-
                 new_is : job_of new ≡ new_job s (kind_of c) (root_for (kind_of c) (root_of c)) (elements us)
                 new_is =
-                    let x : Progress E = record { done = 0; prefix = m.unit; arrival = 0; departure = 0 } in
                     let kept : List E = replicate most_ranks m.unit in
                     let inputs : elements us ≡ ys = ap elements us_all ∙ elements_all ys in
-                    let ranks : (d : Collective) → numbered_from (rank_in d kept) 0 (take p (map (state_of x) xs)) ≡ map (fresh m.unit) ys
-                    = λ d. ap (numbered_from (rank_in d kept) 0) (take-map (state_of x) p xs ∙ ap (map (state_of x)) xs_front) ∙ at_first d kept m.unit 0 ys in
+                    let ranks : (d : Collective) → numbered_from (rank_in d kept) 0 (take p (map (first_state m.unit) xs)) ≡ map (fresh m.unit) ys
+                    = λ d. ap (numbered_from (rank_in d kept) 0) (take-map (first_state m.unit) p xs ∙ ap (map (first_state m.unit)) xs_front) ∙ at_first d kept m.unit 0 ys in
                     let made : Collective → ℕ → List E → List (Rank E) → machine.Job E = λ d q i r. record { number = e.started + 1; kind = kind_of d; root = root_of d; inputs = i; ranks = r; sent = 0 } in
-                    ap (λ l. made schedule.collective schedule.ranks (take schedule.ranks xs) (numbered_from (rank_in schedule.collective kept) 0 (take schedule.ranks l))) (states_alike x most_ranks xs xs_long)
-                    ∙ ap₂ (λ d n. made d n (take n xs) (numbered_from (rank_in d kept) 0 (take n (map (state_of x) xs)))) same among
+                    ap₂ (λ d n. made d n (take n xs) (numbered_from (rank_in d kept) 0 (take n (map (first_state m.unit) xs)))) same among
                     ∙ ap₂ (made c p) xs_front (ranks c)
                     ∙ ap₂ {C = machine.Job E} (λ q i. record { number = e.started + 1; kind = kind_of c; root = q; inputs = i; ranks = map (fresh m.unit) i; sent = 0 }) (sym (root_same c)) (sym inputs)
 
                 pub started_step : (js' : List (Job E)) → js' ≡ js ++ (new ∷ [])
-                    → ◌≡◌ {A = Answer × Plain E} (started e.name (e.started + 1), with_jobs e.name m origin (net e.transport) (e.started + 1) js') (step s (start (kind_of c) (root_of c) words))
+                    → ◌≡◌ {A = Answer × Plain E} (started e.name (e.started + 1), with_jobs e.name m origin (t.meaning e.transport) (e.started + 1) js') (step s (start (kind_of c) (root_of c) words))
                 started_step js' js-is =
                     let jobs = ap (map job_of) js-is ∙ map-append job_of js (new ∷ []) ∙ ap (λ j. map job_of js ++ (j ∷ [])) new_is in
-                    (λ i. (started e.name (e.started + 1), record { name = e.name; meaning = m; origin = origin; now = net e.transport; started = e.started + 1; jobs = jobs i }))
+                    (λ i. (started e.name (e.started + 1), record { name = e.name; meaning = m; origin = origin; now = t.meaning e.transport; started = e.started + 1; jobs = jobs i }))
                     ∙ sym (start_done s (kind_of c) (root_of c) words (sym fits) root_low whole no_bad pending_few has_room (lt-leb 65535 e.started left))
 
                 pub started_ranks : (q : ℕ) → AmongRanks q js → (js' : List (Job E)) → js' ≡ js ++ (new ∷ []) → p ≡ q → AmongRanks q js'
@@ -216,19 +213,42 @@ module _ {O T E : Type 0} (op : O → Meaning E) (net : T → Network) (sound : 
                     pushed (j ∷ l) a = (a.0, pushed l a.1)
 
   -- with one job more too many would wait between two ranks
-  pub too_deep : (net e.transport).depth ≤ length js → true ≡ crowds s (kind_of c) (root_of c)
-  too_deep f = sym (or_left _ _ (lt-ltb (net e.transport).depth (length s.jobs + 1) (omega (arith, many))))
+  pub too_deep : (t.meaning e.transport).depth ≤ length js → true ≡ crowds s (kind_of c) (root_of c)
+  too_deep f = sym (or_left _ _ (lt-ltb (t.meaning e.transport).depth (length s.jobs + 1) (omega (arith, many))))
 
   -- else the room tells
-  pub room_tells : length js < (net e.transport).depth → (t : Bool) → t ≡ ltb (net e.transport).room (messages_in js + messages_of c p) → t ≡ crowds s (kind_of c) (root_of c)
-  room_tells f t is =
-      is ∙ ap (λ n. ltb (net e.transport).room (n + messages_of c p)) (messages_now)
-      ∙ sym (ap (λ b. b || ltb s.now.room (messages_pending p s.jobs + messages (kind_of c) p (root_of c))) (le-ltb (net e.transport).depth (length s.jobs + 1) (omega (arith, many))))
+  pub room_tells : length js < (t.meaning e.transport).depth → (b : Bool) → b ≡ ltb (t.meaning e.transport).room (messages_in js + messages_of c p) → b ≡ crowds s (kind_of c) (root_of c)
+  room_tells f b is =
+      is ∙ ap (λ n. ltb (t.meaning e.transport).room (n + messages_of c p)) (messages_now)
+      ∙ sym (ap (λ b. b || ltb s.now.room (messages_pending p s.jobs + messages (kind_of c) p (root_of c))) (le-ltb (t.meaning e.transport).depth (length s.jobs + 1) (omega (arith, many))))
     where
       messages_now : messages_in js ≡ messages_pending p s.jobs
       messages_now = messages_same p js (subst (λ q. AmongRanks q js) (sym h.good.sound.same_ranks) h.same_ranks)
 
-  pub messages_fit : messages_in js ≤ (net e.transport).room
-  messages_fit =
-      let same = messages_same p js (subst (λ q. AmongRanks q js) (sym h.good.sound.same_ranks) h.same_ranks) in
-      omega (arith, same, h.good.sound.pending_room)
+module _ {O T E : Type 0} {op : Operation O E} {t : Transport T} (e : Engine O T E op t) (c : Collective) (words : List ℕ) where
+  -- a start that nothing refuses
+  pub starts : ((origin : Network) → Stands origin e → true ≡ fit (plain origin e))
+      → root_of c < (t.meaning e.transport).ranks → length words ≡ (t.meaning e.transport).ranks * (op.meaning e.operation).width
+      → (xs : List E) → Ok xs ≡ parts.padded (op.meaning e.operation) (t.meaning e.transport).ranks (parts.inputs_of 0 (parts.blocks_read (op.meaning e.operation) (t.meaning e.transport).ranks words))
+      → length (pending_jobs e.jobs) < 4
+      → ((origin : Network) → Stands origin e → false ≡ crowds (plain origin e) (kind_of c) (root_of c))
+      → e.started < 65535
+      → (schedule : Schedule) → schedule.collective ≡ c → schedule.ranks ≡ (t.meaning e.transport).ranks
+      → (js : List (Job E)) → js ≡ pending_jobs e.jobs ++ (first_job (e.started + 1) schedule xs (op.meaning e.operation).unit ∷ [])
+      → Leads e (start (kind_of c) (root_of c) words) (started e.name (e.started + 1)) (t.meaning e.transport) (e.started + 1) js
+  starts fits rooted full xs read few roomy left schedule same among js js-is =
+      leads e (start (kind_of c) (root_of c) words) (started e.name (e.started + 1)) (t.meaning e.transport) (e.started + 1) js
+      (λ o h. started_ranks e o h c words (fits o h) rooted full xs read few (roomy o h) left schedule same among o.ranks h.same_ranks js js-is h.good.sound.same_ranks)
+      (λ o h. started_step e o h c words (fits o h) rooted full xs read few (roomy o h) left schedule same among js js-is)
+
+-- the schedule of an allowed collective is among the transport's ranks
+pub rooted_in : (s : Schedule) {c : Collective} {p : ℕ} → s.collective ≡ c → s.ranks ≡ p → root_of c < p
+rooted_in s same among = omega (arith, s.allowed.0, ap root_of same, among)
+
+-- what is pending has room
+pub messages_fit : {O T E : Type 0} {op : Operation O E} {t : Transport T} (e : Engine O T E op t) → messages_in (pending_jobs e.jobs) ≤ (t.meaning e.transport).room
+messages_fit {t = t} e =
+    known e (hlevel props) (λ o h.
+    let js = pending_jobs e.jobs in
+    let same = messages_same (t.meaning e.transport).ranks js (subst (λ q. AmongRanks q js) (sym h.good.sound.same_ranks) h.same_ranks) in
+    omega (arith, same, h.good.sound.pending_room))

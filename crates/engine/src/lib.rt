@@ -13,7 +13,7 @@ ghost use Rattle.jobs.specs.declared.job.RankState.{RankState};
 ghost use Rattle.jobs.specs.Tables.{result_at, result_count};
 ghost use Rattle.machine.specs.Network.{Network, waiting_in_all};
 ghost use Rattle.machine.specs.Laws.{RecordLaws};
-ghost use Rattle.engine.specs.Abs.{plain, Stands, Sound, Steps, Due, place_of, state_taken};
+ghost use Rattle.engine.specs.Abs.{plain, Stands, Steps, Due, place_of, state_taken};
 ghost use Rattle.engine.specs.Answers.{start_answer, turn_answer, carry_answer, look_answer, end_answer, HandedBack, abandon_answer};
 
 use answer::{EndFault, StartFault, Tally, Turn, TurnFault, UnknownJob};
@@ -25,6 +25,7 @@ use jobs::job::{Job, RankState};
 use jobs::table::{MAX_PENDING, Table};
 use operation::Operation;
 use programme::{Action, Merge};
+use ranks::Pair;
 use schedule::{Collective, Schedule};
 use state::Engine;
 use token::Token;
@@ -37,14 +38,20 @@ pub mod token;
 // The most jobs started by one engine.
 const MAX_STARTED: u32 = 65535;
 
+// A rank of a pending job.
+#[derive(Clone, Copy)]
+struct Seat {
+    // the job's place
+    place: usize,
+    rank: usize,
+}
+
 impl<O: Operation, T: Transport> Engine<O, T> {
     // An engine without jobs. Every record of its calls keeps the laws of records.
     pub fn new(name: u16, operation: O, transport: T) -> Engine<O, T>
-        requires { T.Transport.sound transport }
-        ensures sound { Sound O.Operation.meaning T.Transport.meaning T.Transport.sound result }
-        ensures stands { Stands O.Operation.meaning T.Transport.meaning T.Transport.sound (T.Transport.meaning transport) result }
-        ensures fresh { plain O.Operation.meaning T.Transport.meaning (T.Transport.meaning transport) result ≡ made name (O.Operation.meaning operation) (T.Transport.meaning transport) }
-        ensures laws { RecordLaws name (O.Operation.meaning operation) (T.Transport.meaning transport) }
+        ensures stands { Stands (T.meaning transport) result }
+        ensures fresh { plain (T.meaning transport) result ≡ made name (O.meaning operation) (T.meaning transport) }
+        ensures laws { RecordLaws name (O.meaning operation) (T.meaning transport) }
     {
         let clean = is_empty(&transport);
         let jobs = Table::new(Job::blank(operation.unit()));
@@ -60,16 +67,14 @@ impl<O: Operation, T: Transport> Engine<O, T> {
 
     // How many ranks there are.
     pub fn ranks(&self) -> usize
-        requires { Sound O.Operation.meaning T.Transport.meaning T.Transport.sound self.now }
-        ensures { result ≡ (T.Transport.meaning self.now.transport).ranks }
+        ensures { result ≡ (T.meaning self.now.transport).ranks }
     {
         self.transport.ranks()
     }
 
     // Whether jobs can be started at all.
     fn is_fit(&self) -> bool
-        requires { Sound O.Operation.meaning T.Transport.meaning T.Transport.sound self.now }
-        ensures { (origin : Network) → Stands O.Operation.meaning T.Transport.meaning T.Transport.sound origin self.now → result ≡ fit (plain O.Operation.meaning T.Transport.meaning origin self.now) }
+        ensures { (origin : Network) → Stands origin self.now → result ≡ fit (plain origin self.now) }
     {
         let width = self.operation.width();
         if !self.clean || width > 6 {
@@ -83,9 +88,8 @@ impl<O: Operation, T: Transport> Engine<O, T> {
 
     // Whether one job more could fill the way between two ranks, or the transport.
     fn is_crowded(&self, schedule: Schedule) -> bool
-        requires sound { Sound O.Operation.meaning T.Transport.meaning T.Transport.sound self.now }
-        requires among { schedule.ranks ≡ (T.Transport.meaning self.now.transport).ranks }
-        ensures { (origin : Network) → Stands O.Operation.meaning T.Transport.meaning T.Transport.sound origin self.now → result ≡ crowds (plain O.Operation.meaning T.Transport.meaning origin self.now) (kind_of schedule.collective) (root_of schedule.collective) }
+        requires { schedule.ranks ≡ (T.meaning self.now.transport).ranks }
+        ensures { (origin : Network) → Stands origin self.now → result ≡ crowds (plain origin self.now) (kind_of schedule.collective) (root_of schedule.collective) }
     {
         if self.jobs.len() >= self.transport.depth() {
             return true;
@@ -97,9 +101,7 @@ impl<O: Operation, T: Transport> Engine<O, T> {
 
     // Starts a job with a block of the words for each rank.
     pub fn start(&mut self, job: Collective, words: &[u32]) -> Result<Token, StartFault>
-        requires { Sound O.Operation.meaning T.Transport.meaning T.Transport.sound self.old }
-        ensures sound { Sound O.Operation.meaning T.Transport.meaning T.Transport.sound self.new }
-        ensures step { Steps O.Operation.meaning T.Transport.meaning T.Transport.sound self.old self.new (start (kind_of job) (root_of job) words.now) (start_answer result) }
+        ensures step { Steps self.old self.new (start (kind_of job) (root_of job) words.now) (start_answer result) }
         ensures numbered { IfOk result (λ token. 1 ≤ token.number) }
     {
         if !self.is_fit() {
@@ -133,12 +135,10 @@ impl<O: Operation, T: Transport> Engine<O, T> {
     }
 
     // Carries one message that is under way between two ranks.
-    pub fn carry(&mut self, from: usize, to: usize) -> Result<bool, Fault>
-        requires { Sound O.Operation.meaning T.Transport.meaning T.Transport.sound self.old }
-        ensures sound { Sound O.Operation.meaning T.Transport.meaning T.Transport.sound self.new }
-        ensures step { Steps O.Operation.meaning T.Transport.meaning T.Transport.sound self.old self.new (carry from to) (carry_answer result) }
+    pub fn carry(&mut self, pair: Pair) -> Result<bool, Fault>
+        ensures { Steps self.old self.new (carry pair.from pair.to) (carry_answer result) }
     {
-        self.transport.carry(from, to)
+        self.transport.carry(pair)
     }
 
     // Whether the token is one of this engine's.
@@ -150,15 +150,14 @@ impl<O: Operation, T: Transport> Engine<O, T> {
 
     // Whether there is such a rank.
     fn has_rank(&self, rank: usize) -> bool
-        requires { Sound O.Operation.meaning T.Transport.meaning T.Transport.sound self.now }
-        ensures { result ≡ nat_lt rank (T.Transport.meaning self.now.transport).ranks }
+        ensures { result ≡ nat_lt rank (T.meaning self.now.transport).ranks }
     {
         rank < self.transport.ranks()
     }
 
     // The place of the token's job.
     fn find(&self, token: &Token) -> Option<usize>
-        ensures { result ≡ place_of O.Operation.meaning T.Transport.meaning self.now token.now }
+        ensures { result ≡ place_of self.now token.now }
     {
         if !self.is_named_by(token) {
             return None;
@@ -168,20 +167,15 @@ impl<O: Operation, T: Transport> Engine<O, T> {
 
     // How many ranks of the token's job have no action left.
     pub fn look(&self, token: &Token) -> Result<usize, UnknownJob>
-        requires { Sound O.Operation.meaning T.Transport.meaning T.Transport.sound self.now }
-        ensures { Steps O.Operation.meaning T.Transport.meaning T.Transport.sound self.now self.now (look token.now.name token.now.number) (look_answer result) }
+        ensures { Steps self.now self.now (look token.now.name token.now.number) (look_answer result) }
     {
-        let Some(place) = self.find(token) else {
-            return Err(UnknownJob);
-        };
+        let place = self.find(token).ok_or(UnknownJob)?;
         Ok(self.jobs.job(place).idle_ranks())
     }
 
     // Hands the operation and the transport back.
     pub fn into_parts(self) -> (O, T)
-        requires { Sound O.Operation.meaning T.Transport.meaning T.Transport.sound self }
-        ensures parts { (result.0 ≡ self.operation) × (result.1 ≡ self.transport) }
-        ensures sound { T.Transport.sound result.1 }
+        ensures { (result.0 ≡ self.operation) × (result.1 ≡ self.transport) }
     {
         let Engine {
             transport,
@@ -189,17 +183,14 @@ impl<O: Operation, T: Transport> Engine<O, T> {
             name: _,
             started: _,
             clean: _,
-            jobs,
+            jobs: _,
         } = self;
-        jobs.discard();
         (operation, transport)
     }
 
     // Writes the answer blocks of the token's finished job to the front of the lent words, and removes the job.
     pub fn end(&mut self, token: Token, words: &mut [u32]) -> Result<Tally, (EndFault, Token)>
-        requires { Sound O.Operation.meaning T.Transport.meaning T.Transport.sound self.old }
-        ensures sound { Sound O.Operation.meaning T.Transport.meaning T.Transport.sound self.new }
-        ensures step { Steps O.Operation.meaning T.Transport.meaning T.Transport.sound self.old self.new (end token.name token.number words.old) (end_answer result words.new) }
+        ensures step { Steps self.old self.new (end token.name token.number words.old) (end_answer result words.new) }
         ensures refused { HandedBack result token words.old words.new }
     {
         let Some(place) = self.find(&token) else {
@@ -224,94 +215,81 @@ impl<O: Operation, T: Transport> Engine<O, T> {
 
     // Takes out all messages of the token's job, and the job. The token is spent even where there is none.
     pub fn abandon(&mut self, token: Token) -> Result<(), UnknownJob>
-        requires { Sound O.Operation.meaning T.Transport.meaning T.Transport.sound self.old }
-        ensures sound { Sound O.Operation.meaning T.Transport.meaning T.Transport.sound self.new }
-        ensures step { Steps O.Operation.meaning T.Transport.meaning T.Transport.sound self.old self.new (abandon token.name token.number) (abandon_answer result) }
+        ensures { Steps self.old self.new (abandon token.name token.number) (abandon_answer result) }
     {
         let found = self.find(&token);
         let number = token.number;
         token.spend();
-        let Some(place) = found else {
-            return Err(UnknownJob);
-        };
+        let place = found.ok_or(UnknownJob)?;
         clear_job(&mut self.transport, number);
         self.jobs.remove(place);
         Ok(())
     }
 
-    // Does the rank's next action, which is a send.
-    fn send(&mut self, token: &Token, place: usize, rank: usize, to: usize, label: u32)
-        requires sound { Sound O.Operation.meaning T.Transport.meaning T.Transport.sound self.old }
-        requires due { Due O.Operation.meaning T.Transport.meaning self.old token.now place rank (Send to label) }
-        ensures { Steps O.Operation.meaning T.Transport.meaning T.Transport.sound self.old self.new (turn token.now.name token.now.number rank) sent }
+    // Does the next action of a rank of the token's job, which is a send.
+    fn send(&mut self, token: &Token, seat: Seat, to: usize, label: u32)
+        requires { Due self.old token.now seat.place seat.rank (Send to label) }
+        ensures { Steps self.old self.new (turn token.now.name token.now.number seat.rank) sent }
     {
-        let state = self.jobs.job(place).state(rank);
+        let state = self.jobs.job(seat.place).state(seat.rank);
         let stamp = next_stamp(state.departure, state.arrival);
+        let pair = Pair {
+            from: seat.rank,
+            to,
+        };
+        let tag = job_tag(token.number, label);
         let mail = Mail {
             stamp,
             value: state.value,
         };
-        let tag = job_tag(token.number, label);
         // No reason to refuse a message of a pending job is left.
-        match send_value(&self.operation, &mut self.transport, rank, to, tag, mail) {
-            Ok(()) => {}
-            Err(_) => unreachable(),
-        }
-        let state = RankState {
+        send_value(&self.operation, &mut self.transport, pair, tag, mail).unwrap();
+        let after = RankState {
             done: state.done + 1,
             departure: stamp,
             ..state
         };
-        self.jobs.send(place, rank, state);
+        self.jobs.send(seat.place, seat.rank, after);
     }
 
-    // Does the rank's next action, which is a take, if a message has arrived.
-    fn take(
-        &mut self,
-        token: &Token,
-        place: usize,
-        rank: usize,
-        from: usize,
-        label: u32,
-        merge: Merge,
-    ) -> bool
-        requires sound { Sound O.Operation.meaning T.Transport.meaning T.Transport.sound self.old }
-        requires due { Due O.Operation.meaning T.Transport.meaning self.old token.now place rank (Take from label merge) }
-        ensures { Steps O.Operation.meaning T.Transport.meaning T.Transport.sound self.old self.new (turn token.now.name token.now.number rank) (if result then took else waits) }
+    // Does the next action of a rank of the token's job, which is a take, if a message has arrived.
+    fn take(&mut self, token: &Token, seat: Seat, from: usize, label: u32, merge: Merge) -> bool
+        requires { Due self.old token.now seat.place seat.rank (Take from label merge) }
+        ensures { Steps self.old self.new (turn token.now.name token.now.number seat.rank) (if result then took else waits) }
     {
-        let state = self.jobs.job(place).state(rank);
+        let state = self.jobs.job(seat.place).state(seat.rank);
+        let pair = Pair {
+            from,
+            to: seat.rank,
+        };
         let tag = job_tag(token.number, label);
-        let Some(mail) = take_value(&self.operation, &mut self.transport, from, rank, tag) else {
+        let Some(mail) = take_value(&self.operation, &mut self.transport, pair, tag) else {
             return false;
         };
         let after = merged(&self.operation, merge, state, mail);
-        self.jobs
-            .receive(place, rank, after, merge, state.done, mail.value);
+        self.jobs.receive(seat.place, seat.rank, after, merge, state.done, mail.value);
         true
     }
 
     // One action of a rank for the token's job.
     pub fn turn(&mut self, token: &Token, rank: usize) -> Result<Turn, TurnFault>
-        requires { Sound O.Operation.meaning T.Transport.meaning T.Transport.sound self.old }
-        ensures sound { Sound O.Operation.meaning T.Transport.meaning T.Transport.sound self.new }
-        ensures step { Steps O.Operation.meaning T.Transport.meaning T.Transport.sound self.old self.new (turn token.now.name token.now.number rank) (turn_answer result) }
+        ensures { Steps self.old self.new (turn token.now.name token.now.number rank) (turn_answer result) }
     {
-        let Some(place) = self.find(token) else {
-            return Err(TurnFault::UnknownJob);
-        };
+        let place = self.find(token).ok_or(TurnFault::UnknownJob)?;
         if !self.has_rank(rank) {
             return Err(TurnFault::BadRank);
         }
         let Some(action) = self.jobs.job(place).next_action(rank) else {
             return Ok(Turn::Through);
         };
+        let seat = Seat { place, rank };
         match action {
             Action::Send { to, label } => {
-                self.send(token, place, rank, to, label);
+                self.send(token, seat, to, label);
                 Ok(Turn::Sent)
             }
             Action::Take { from, label, merge } => {
-                if self.take(token, place, rank, from, label, merge) {
+                if self.take(token, seat, from, label, merge) {
                     Ok(Turn::Took)
                 } else {
                     Ok(Turn::Waiting)
@@ -323,8 +301,7 @@ impl<O: Operation, T: Transport> Engine<O, T> {
 
 // Whether nothing waits in a transport.
 fn is_empty<T: Transport>(transport: &T) -> bool
-    requires { T.Transport.sound transport.now }
-    ensures { result ≡ (waiting_in_all (T.Transport.meaning transport.now) == 0) }
+    ensures { result ≡ (waiting_in_all (T.meaning transport.now) == 0) }
 {
     transport.waiting() == 0
 }
@@ -355,10 +332,10 @@ fn overfills(messages: usize, pending: usize, room: usize) -> bool
 
 // Writes the blocks of what a finished job gives to the front of the lent words.
 fn write_results<O: Operation>(operation: &O, job: &Job<O::Element>, words: &mut [u32])
-    requires narrow { (O.Operation.meaning operation.now).width ≤ 6 }
-    requires proper { (d : RankState O.Element) → AllByRecursion (Proper (O.Operation.meaning operation.now)) (listed (result_at job.now d) (result_count job.now.schedule.collective job.now.schedule.ranks)) }
-    requires room { result_count job.now.schedule.collective job.now.schedule.ranks * (O.Operation.meaning operation.now).width ≤ length words.old }
-    ensures { (d : RankState O.Element) → words.new ≡ written (packed (O.Operation.meaning operation.now) (listed (result_at job.now d) (result_count job.now.schedule.collective job.now.schedule.ranks))) words.old }
+    requires narrow { (O.meaning operation.now).width ≤ 6 }
+    requires proper { (d : RankState O.Element) → AllByRecursion (Proper (O.meaning operation.now)) (listed (result_at job.now d) (result_count job.now.schedule.collective job.now.schedule.ranks)) }
+    requires room { result_count job.now.schedule.collective job.now.schedule.ranks * (O.meaning operation.now).width ≤ length words.old }
+    ensures { (d : RankState O.Element) → words.new ≡ written (packed (O.meaning operation.now) (listed (result_at job.now d) (result_count job.now.schedule.collective job.now.schedule.ranks))) words.old }
 {
     for index in 0..job.result_count() {
         write_block(operation, job.result(index), index, words);
@@ -373,7 +350,7 @@ fn merged<O: Operation>(
     mail: Mail<O::Element>,
 ) -> RankState<O::Element>
     requires { (state.done + 1 < 2 ^ 64) × (state.arrival ≤ 66) }
-    ensures { result ≡ state_taken (O.Operation.meaning operation.now).join merge mail state }
+    ensures { result ≡ state_taken (O.meaning operation.now).join merge mail state }
 {
     let (value, prefix) = match merge {
         Merge::Replace => (mail.value, state.prefix),
@@ -390,6 +367,6 @@ fn merged<O: Operation>(
         value,
         prefix,
         arrival: (state.arrival + 1).max(mail.stamp),
-        departure: state.departure,
+        ..state
     }
 }

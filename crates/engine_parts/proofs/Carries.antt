@@ -1,20 +1,26 @@
 -- All that is under way between two ranks carried, one message after the other.
-use Rattle.std.proofs.Common.{◌≡◌, ℕ, ◌<◌, Bool, true, false, cond, List, [], ◌∷◌, ◌++◌, length, sym, refl, ap, ◌∙◌, ap₂, arith}
+use Rattle.std.proofs.Common.{◌≡◌, ℕ, ◌<◌, Bool, true, false, cond, List, [], ◌∷◌, ◌++◌, length, Ok, Err, Result, sym, refl, ap, ◌∙◌, ap₂, arith}
 use Rattle.std.proofs.lemmas.List.{append-nil, append_assoc}
-use Rattle.transport.specs.Network.{Network, Message, value, refused, put, with_lists, carry_reply, after_carry, carried, some_moved}
+use Rattle.transport.specs.declared.Fault.{Fault}
+use Rattle.transport.specs.Network.{Network, Message, value, refused, fault_number, carrying, put, with_lists, carry_reply, after_carry, carried, some_moved}
 use Rattle.ranks.specs.Ranks.{pair_ok}
 use Rattle.transport.proofs.Tables.{put_here, put_put, put_same}
 use Rattle.engine_parts.specs.Clearing.{some_in, delivered}
 
-pub moved_refuses_not : (f : ℕ) (l : List Message) → refused f ≡ some_moved l → ⊥
+moved_refuses_not : (f : ℕ) (l : List Message) → refused f ≡ some_moved l → ⊥
 moved_refuses_not f [] e = let z : ◌≡◌ {A = ℕ} 0 1 = cc in omega arith
 moved_refuses_not f (x ∷ l) e = let z : ◌≡◌ {A = ℕ} 0 1 = cc in omega arith
 
-pub moved_some : (t : Bool) (l : List Message) → value (cond t 1 0) ≡ some_moved l → t ≡ some_in l
+moved_some : (t : Bool) (l : List Message) → value (cond t 1 0) ≡ some_moved l → t ≡ some_in l
 moved_some true [] e = let z : ◌≡◌ {A = ℕ} 1 0 = cc in absurd (omega arith)
 moved_some false [] e = refl
 moved_some true (x ∷ l) e = refl
 moved_some false (x ∷ l) e = let z : ◌≡◌ {A = ℕ} 0 1 = cc in absurd (omega arith)
+
+-- a carry between two ranks is not refused, and tells whether a message was under way
+pub carry_tells : (r : Result Bool Fault) (l : List Message) → carrying r ≡ some_moved l → r ≡ Ok (some_in l)
+carry_tells (Ok moved) l e = ap Ok (moved_some moved l e)
+carry_tells (Err f) l e = absurd (moved_refuses_not (fault_number f) l e)
 
 pub none_in : (l : List Message) → false ≡ some_in l → l ≡ []
 none_in [] e = refl

@@ -1,9 +1,11 @@
 -- What a take tells of the oldest message.
-use Rattle.std.proofs.Common.{◌≡◌, ℕ, ◌+◌, ◌-◌, ◌≤◌, Bool, true, false, cond, eqb, List, [], ◌∷◌, ◌++◌, length, get_or, take, drop, is_some, Some, None, Ok, Option, sym, refl, ap, ◌∙◌, ap₂, arith, take_all}
+use Rattle.std.proofs.Common.{◌≡◌, ℕ, ◌+◌, ◌-◌, ◌≤◌, Bool, true, false, cond, eqb, List, [], ◌∷◌, ◌++◌, length, get_or, take, drop, is_some, Some, None, Ok, Err, Option, Result, sym, refl, ap, ◌∙◌, ap₂, arith, take_all}
 use Rattle.std.specs.List.{AllByRecursion}
 use lib.Seq.{take-append-le}
 use Rattle.operation.specs.Meaning.{Meaning, Packing}
-use Rattle.transport.specs.Network.{Network, Message, value, none, refused, taking, word_count, oldest, take_reply, taken_words, written, Shaped}
+use Rattle.std.specs.Result.{IsOk}
+use Rattle.transport.specs.declared.Fault.{Fault}
+use Rattle.transport.specs.Network.{Network, Message, value, none, refused, fault_number, taking, word_count, oldest, take_reply, taken_words, written, Shaped}
 use Rattle.ranks.specs.Ranks.{pair_ok}
 use Rattle.transport.proofs.Replies.{take_found, taken_found}
 use Rattle.engine_parts.specs.Mail.{Sent, Legible, stamped, read_words}
@@ -21,9 +23,14 @@ pub record Found {E : Type 0} (m : Meaning E) (o : Option Message) (size : ℕ) 
   pub count : size ≡ length at.words
   pub read : take size buffer ≡ at.words
 
-pub counted_refuses_not : (f : ℕ) (o : Option Message) → refused f ≡ word_count o → ⊥
+counted_refuses_not : (f : ℕ) (o : Option Message) → refused f ≡ word_count o → ⊥
 counted_refuses_not f None k = let z : ◌≡◌ {A = ℕ} 0 1 = cc in omega arith
 counted_refuses_not f (Some x) k = let z : ◌≡◌ {A = ℕ} 0 1 = cc in omega arith
+
+-- a take that the meaning does not refuse is not refused
+pub take_goes : (r : Result (Option ℕ) Fault) (o : Option Message) → taking r ≡ word_count o → IsOk r
+take_goes (Ok taken) o e = refl
+take_goes (Err f) o e = absurd (counted_refuses_not (fault_number f) o e)
 
 pub counted_some : (r : Option ℕ) (o : Option Message) → taking (Ok r) ≡ word_count o → is_some r ≡ is_some o
 counted_some None None k = refl
@@ -32,9 +39,6 @@ counted_some (Some i) None k = let z : ◌≡◌ {A = ℕ} 0 1 = cc in absurd (o
 counted_some (Some i) (Some x) k = refl
 
 module _ {E : Type 0} (m : Meaning E) (n : Network) (a b t : ℕ) (buffer : List ℕ) (pair : pair_ok n.ranks a b ≡ true) (enough : n.limit ≤ length buffer) where
-  pub take_refuses_not : (f : ℕ) → refused f ≡ take_reply n a b t (length buffer) → ⊥
-  take_refuses_not f e = counted_refuses_not f (oldest t (n.arrived a b)) (e ∙ take_found n a b t buffer pair enough)
-
   pub take_finds_none : none ≡ take_reply n a b t (length buffer) → oldest t (n.arrived a b) ≡ None
   take_finds_none e = by (oldest t (n.arrived a b)) (e ∙ take_found n a b t buffer pair enough)
     where
@@ -57,6 +61,10 @@ pub length-sent : {E : Type 0} (m : Meaning E) → Packing m → (ws : List ℕ)
 length-sent m packing ws s =
     let l = length-block m packing s.mail.value s.proper in
     ap length s.words ∙ omega arith
+
+-- a block of six words or fewer and a stamp are seven words or fewer
+pub short_found : {E : Type 0} (m : Meaning E) → Packing m → m.width ≤ 6 → (o : Option Message) (size : ℕ) (out : List ℕ) → Found m o size out → size ≤ 7
+short_found m packing narrow o size out f = omega (arith, narrow, f.count, length-sent m packing f.at.words f.sent)
 
 -- what a sent message says
 module _ {E : Type 0} (m : Meaning E) (packing : Packing m) (ws : List ℕ) (s : Sent m ws) where

@@ -5,105 +5,84 @@ ghost use Rattle.ranks.specs.Ranks.{pair_ok};
 ghost use Rattle.engine_parts.specs.Mail.{with_taken};
 ghost use Rattle.engine_parts.specs.Clearing.{some_in, delivered, tagged, of_job, purged, cleared, one_pair, row_below, with_abandoned};
 
-use transport::{Fault, Transport};
+use ranks::Pair;
+use transport::Transport;
 
 // A job's tags are sixteen, one for each label.
 const LABELS: u32 = 16;
 
 // Carries one message, if one is under way.
-fn carry_one<T: Transport>(transport: &mut T, from: usize, to: usize) -> bool
-    requires sound { T.Transport.sound transport.old }
-    requires pair { pair_ok (T.Transport.meaning transport.old).ranks from to ≡ true }
-    ensures answer { result ≡ some_in ((T.Transport.meaning transport.old).under from to) }
-    ensures after { T.Transport.meaning transport.new ≡ carried (T.Transport.meaning transport.old) from to ((T.Transport.meaning transport.old).under from to) }
-    ensures kept { T.Transport.sound transport.new }
+fn carry_one<T: Transport>(transport: &mut T, pair: Pair) -> bool
+    requires { pair_ok (T.meaning transport.old).ranks pair.from pair.to ≡ true }
+    ensures answer { result ≡ some_in ((T.meaning transport.old).under pair.from pair.to) }
+    ensures after { T.meaning transport.new ≡ carried (T.meaning transport.old) pair.from pair.to ((T.meaning transport.old).under pair.from pair.to) }
 {
-    match transport.carry(from, to) {
-        Ok(moved) => moved,
-        Err(_) => unreachable(),
-    }
+    transport.carry(pair).unwrap()
 }
 
 // Carries all that is under way between two ranks.
-fn carry_all<T: Transport>(transport: &mut T, from: usize, to: usize)
-    requires sound { T.Transport.sound transport.old }
-    requires pair { pair_ok (T.Transport.meaning transport.old).ranks from to ≡ true }
-    ensures after { T.Transport.meaning transport.new ≡ delivered from to (T.Transport.meaning transport.old) }
-    ensures kept { T.Transport.sound transport.new }
+fn carry_all<T: Transport>(transport: &mut T, pair: Pair)
+    requires { pair_ok (T.meaning transport.old).ranks pair.from pair.to ≡ true }
+    ensures { T.meaning transport.new ≡ delivered pair.from pair.to (T.meaning transport.old) }
 {
-    while carry_one(transport, from, to) {}
+    while carry_one(transport, pair) {}
 }
 
 // Takes out the oldest message with a tag, if one has arrived.
-fn take_one<T: Transport>(transport: &mut T, from: usize, to: usize, tag: u32) -> bool
-    requires sound { T.Transport.sound transport.old }
-    requires pair { pair_ok (T.Transport.meaning transport.old).ranks from to ≡ true }
-    ensures answer { result ≡ is_some (oldest tag ((T.Transport.meaning transport.old).arrived from to)) }
-    ensures after { T.Transport.meaning transport.new ≡ with_taken (T.Transport.meaning transport.old) from to tag }
-    ensures kept { T.Transport.sound transport.new }
+fn take_one<T: Transport>(transport: &mut T, pair: Pair, tag: u32) -> bool
+    requires { pair_ok (T.meaning transport.old).ranks pair.from pair.to ≡ true }
+    ensures answer { result ≡ is_some (oldest tag ((T.meaning transport.old).arrived pair.from pair.to)) }
+    ensures after { T.meaning transport.new ≡ with_taken (T.meaning transport.old) pair.from pair.to tag }
 {
     let mut words = [0; 8];
-    match transport.take(from, to, tag, &mut words) {
-        Ok(taken) => taken.is_some(),
-        Err(_) => unreachable(),
-    }
+    transport.take(pair, tag, &mut words).unwrap().is_some()
 }
 
 // Takes out all that has arrived with a tag.
-fn take_all<T: Transport>(transport: &mut T, from: usize, to: usize, tag: u32)
-    requires sound { T.Transport.sound transport.old }
-    requires pair { pair_ok (T.Transport.meaning transport.old).ranks from to ≡ true }
-    ensures after { T.Transport.meaning transport.new ≡ purged (tagged tag) from to (T.Transport.meaning transport.old) }
-    ensures kept { T.Transport.sound transport.new }
+fn take_all<T: Transport>(transport: &mut T, pair: Pair, tag: u32)
+    requires { pair_ok (T.meaning transport.old).ranks pair.from pair.to ≡ true }
+    ensures { T.meaning transport.new ≡ purged (tagged tag) pair.from pair.to (T.meaning transport.old) }
 {
-    while take_one(transport, from, to, tag) {}
+    while take_one(transport, pair, tag) {}
 }
 
 // Takes out all that has arrived of a job.
-fn take_job<T: Transport>(transport: &mut T, from: usize, to: usize, number: u32)
-    requires sound { T.Transport.sound transport.old }
-    requires pair { pair_ok (T.Transport.meaning transport.old).ranks from to ≡ true }
+fn take_job<T: Transport>(transport: &mut T, pair: Pair, number: u32)
+    requires among { pair_ok (T.meaning transport.old).ranks pair.from pair.to ≡ true }
     requires small { number ≤ 65535 }
-    ensures after { T.Transport.meaning transport.new ≡ purged (of_job number) from to (T.Transport.meaning transport.old) }
-    ensures kept { T.Transport.sound transport.new }
+    ensures { T.meaning transport.new ≡ purged (of_job number) pair.from pair.to (T.meaning transport.old) }
 {
     for label in 0..LABELS {
-        take_all(transport, from, to, LABELS * number + label);
+        take_all(transport, pair, LABELS * number + label);
     }
 }
 
 // Carries all between two ranks and takes out what is of a job; other than two different ranks have nothing waiting.
-fn clear_pair<T: Transport>(transport: &mut T, from: usize, to: usize, number: u32)
-    requires sound { T.Transport.sound transport.old }
-    requires small { number ≤ 65535 }
-    ensures after { T.Transport.meaning transport.new ≡ cleared number (one_pair from to) (T.Transport.meaning transport.old) }
-    ensures kept { T.Transport.sound transport.new }
+fn clear_pair<T: Transport>(transport: &mut T, pair: Pair, number: u32)
+    requires { number ≤ 65535 }
+    ensures { T.meaning transport.new ≡ cleared number (one_pair pair.from pair.to) (T.meaning transport.old) }
 {
-    if transport.waiting_between(from, to).unwrap_or(0) == 0 {
+    if transport.waiting_between(pair).unwrap_or(0) == 0 {
         return;
     }
-    carry_all(transport, from, to);
-    take_job(transport, from, to, number);
+    carry_all(transport, pair);
+    take_job(transport, pair, number);
 }
 
 // Clears what a rank has sent to the ranks below `ranks`.
 fn clear_row<T: Transport>(transport: &mut T, from: usize, ranks: usize, number: u32)
-    requires sound { T.Transport.sound transport.old }
-    requires small { number ≤ 65535 }
-    ensures after { T.Transport.meaning transport.new ≡ cleared number (row_below from ranks) (T.Transport.meaning transport.old) }
-    ensures kept { T.Transport.sound transport.new }
+    requires { number ≤ 65535 }
+    ensures { T.meaning transport.new ≡ cleared number (row_below from ranks) (T.meaning transport.old) }
 {
     for to in 0..ranks {
-        clear_pair(transport, from, to, number);
+        clear_pair(transport, Pair { from, to }, number);
     }
 }
 
 // Carries all that is under way in the whole transport, and takes out the messages of a job.
 pub fn clear_job<T: Transport>(transport: &mut T, number: u32)
-    requires sound { T.Transport.sound transport.old }
-    requires small { number ≤ 65535 }
-    ensures after { T.Transport.meaning transport.new ≡ with_abandoned number (T.Transport.meaning transport.old) }
-    ensures kept { T.Transport.sound transport.new }
+    requires { number ≤ 65535 }
+    ensures { T.meaning transport.new ≡ with_abandoned number (T.meaning transport.old) }
 {
     let ranks = transport.ranks();
     for from in 0..ranks {

@@ -2,38 +2,26 @@
 // A token must not fall, so a test spends its tokens first and compares what it saw last.
 #![tactic(auto)]
 
-ghost use Rattle.engine.specs.Abs.{Sound};
-
 use engine::answer::{EndFault, StartFault, Tally, Turn, TurnFault, UnknownJob};
 use engine::state::Engine;
 use engine::token::Token;
 use operation::Operation;
+use ranks::Pair;
 use runner::run;
 use schedule::Collective;
 use transport::Transport;
 
-// A start's token, if there is one, and its fault.
-fn begin<O: Operation, T: Transport>(
+// Gives up the job of a start, or tells why there is none.
+fn give_up<O: Operation, T: Transport>(
     engine: &mut Engine<O, T>,
-    job: Collective,
-    words: &[u32],
-) -> (Option<Token>, Option<StartFault>)
-    requires { Sound O.Operation.meaning T.Transport.meaning T.Transport.sound engine.old }
-    ensures { Sound O.Operation.meaning T.Transport.meaning T.Transport.sound engine.new }
-{
-    match engine.start(job, words) {
-        Ok(token) => (Some(token), None),
-        Err(fault) => (None, Some(fault)),
-    }
-}
-
-// Gives the job up, if there is one.
-fn give_up<O: Operation, T: Transport>(engine: &mut Engine<O, T>, slot: Option<Token>)
-    requires { Sound O.Operation.meaning T.Transport.meaning T.Transport.sound engine.old }
-    ensures { Sound O.Operation.meaning T.Transport.meaning T.Transport.sound engine.new }
-{
-    if let Some(token) = slot {
-        let _ = engine.abandon(token);
+    started: Result<Token, StartFault>,
+) -> Option<StartFault> {
+    match started {
+        Ok(token) => {
+            let _ = engine.abandon(token);
+            None
+        }
+        Err(fault) => Some(fault),
     }
 }
 
@@ -42,45 +30,24 @@ fn refusal<O: Operation, T: Transport>(
     engine: &mut Engine<O, T>,
     job: Collective,
     words: &[u32],
-) -> Option<StartFault>
-    requires { Sound O.Operation.meaning T.Transport.meaning T.Transport.sound engine.old }
-    ensures { Sound O.Operation.meaning T.Transport.meaning T.Transport.sound engine.new }
-{
-    let (slot, fault) = begin(engine, job, words);
-    give_up(engine, slot);
-    fault
-}
-
-// Ends the job, if there is one: its counts, or its fault and the token that is handed back.
-fn end_of<O: Operation, T: Transport>(
-    engine: &mut Engine<O, T>,
-    slot: Option<Token>,
-    words: &mut [u32],
-) -> (Result<Tally, EndFault>, Option<Token>)
-    requires { Sound O.Operation.meaning T.Transport.meaning T.Transport.sound engine.old }
-    ensures { Sound O.Operation.meaning T.Transport.meaning T.Transport.sound engine.new }
-{
-    let Some(token) = slot else {
-        return (Err(EndFault::UnknownJob), None);
-    };
-    match engine.end(token, words) {
-        Ok(tally) => (Ok(tally), None),
-        Err((fault, back)) => (Err(fault), Some(back)),
-    }
+) -> Option<StartFault> {
+    let started = engine.start(job, words);
+    give_up(engine, started)
 }
 
 // Ends the job; where that is refused, gives it up.
 fn finish<O: Operation, T: Transport>(
     engine: &mut Engine<O, T>,
-    slot: Option<Token>,
+    token: Token,
     words: &mut [u32],
-) -> Result<Tally, EndFault>
-    requires { Sound O.Operation.meaning T.Transport.meaning T.Transport.sound engine.old }
-    ensures { Sound O.Operation.meaning T.Transport.meaning T.Transport.sound engine.new }
-{
-    let (ended, back) = end_of(engine, slot, words);
-    give_up(engine, back);
-    ended
+) -> Result<Tally, EndFault> {
+    match engine.end(token, words) {
+        Ok(tally) => Ok(tally),
+        Err((fault, back)) => {
+            let _ = engine.abandon(back);
+            Err(fault)
+        }
+    }
 }
 
 // Starts a job and gives it up, so many times: how many were started.
@@ -89,17 +56,10 @@ fn spend_numbers<O: Operation, T: Transport>(
     job: Collective,
     words: &[u32],
     times: u32,
-) -> u32
-    requires { Sound O.Operation.meaning T.Transport.meaning T.Transport.sound engine.old }
-    ensures { Sound O.Operation.meaning T.Transport.meaning T.Transport.sound engine.new }
-{
-    let mut started = 0u32;
-    for _ in 0..times {
-        if refusal(engine, job, words).is_none() {
-            started = started.saturating_add(1);
-        }
-    }
-    started
+) -> usize {
+    (0..times)
+        .filter(|_| refusal(engine, job, words).is_none())
+        .count()
 }
 
 // Five jobs of three ranks, and between the fourth and the fifth one whose first block is bad: their faults.
@@ -107,37 +67,32 @@ fn five_jobs<O: Operation, T: Transport>(
     engine: &mut Engine<O, T>,
     words: &[u32],
     bad: &[u32],
-) -> [Option<StartFault>; 6]
-    requires { Sound O.Operation.meaning T.Transport.meaning T.Transport.sound engine.old }
-    ensures { Sound O.Operation.meaning T.Transport.meaning T.Transport.sound engine.new }
-{
-    let (first, a) = begin(engine, Collective::Scan, words);
-    let (second, b) = begin(engine, Collective::Reduce { root: 2 }, words);
-    let (third, c) = begin(engine, Collective::Gather { root: 1 }, words);
-    let (fourth, d) = begin(engine, Collective::Allreduce, words);
+) -> [Option<StartFault>; 6] {
+    let first = engine.start(Collective::Scan, words);
+    let second = engine.start(Collective::Reduce { root: 2 }, words);
+    let third = engine.start(Collective::Gather { root: 1 }, words);
+    let fourth = engine.start(Collective::Allreduce, words);
     let block = refusal(engine, Collective::Scan, bad);
-    let e = refusal(engine, Collective::Exscan, words);
-    give_up(engine, first);
-    give_up(engine, second);
-    give_up(engine, third);
-    give_up(engine, fourth);
-    [a, b, c, d, block, e]
+    let fifth = refusal(engine, Collective::Exscan, words);
+    [
+        give_up(engine, first),
+        give_up(engine, second),
+        give_up(engine, third),
+        give_up(engine, fourth),
+        block,
+        fifth,
+    ]
 }
 
 // Three scans beside each other: their faults.
 fn scans<O: Operation, T: Transport>(
     engine: &mut Engine<O, T>,
     words: &[u32],
-) -> [Option<StartFault>; 3]
-    requires { Sound O.Operation.meaning T.Transport.meaning T.Transport.sound engine.old }
-    ensures { Sound O.Operation.meaning T.Transport.meaning T.Transport.sound engine.new }
-{
-    let (first, a) = begin(engine, Collective::Scan, words);
-    let (second, b) = begin(engine, Collective::Scan, words);
-    let c = refusal(engine, Collective::Scan, words);
-    give_up(engine, first);
-    give_up(engine, second);
-    [a, b, c]
+) -> [Option<StartFault>; 3] {
+    let first = engine.start(Collective::Scan, words);
+    let second = engine.start(Collective::Scan, words);
+    let third = refusal(engine, Collective::Scan, words);
+    [give_up(engine, first), give_up(engine, second), third]
 }
 
 // What the calls answer that are shown a token, an end with too few words and then one with enough.
@@ -149,30 +104,7 @@ struct Shown {
     ended: Result<Tally, EndFault>,
 }
 
-// Shows a token to a turn, a look and two ends, and spends it.
-fn show<O: Operation, T: Transport>(
-    engine: &mut Engine<O, T>,
-    token: Token,
-    rank: usize,
-    few: &mut [u32],
-    words: &mut [u32],
-) -> Shown
-    requires { Sound O.Operation.meaning T.Transport.meaning T.Transport.sound engine.old }
-    ensures { Sound O.Operation.meaning T.Transport.meaning T.Transport.sound engine.new }
-{
-    let turned = engine.turn(&token, rank);
-    let looked = engine.look(&token);
-    let (short, back) = end_of(engine, Some(token), few);
-    let ended = finish(engine, back, words);
-    Shown {
-        turned,
-        looked,
-        short,
-        ended,
-    }
-}
-
-// Starts a job and shows its token.
+// Starts a job, shows its token to a turn, a look and two ends, and spends it.
 fn start_and_show<O: Operation, T: Transport>(
     engine: &mut Engine<O, T>,
     job: Collective,
@@ -180,69 +112,64 @@ fn start_and_show<O: Operation, T: Transport>(
     rank: usize,
     few: &mut [u32],
     words: &mut [u32],
-) -> Option<Shown>
-    requires { Sound O.Operation.meaning T.Transport.meaning T.Transport.sound engine.old }
-    ensures { Sound O.Operation.meaning T.Transport.meaning T.Transport.sound engine.new }
-{
-    match engine.start(job, inputs) {
-        Ok(token) => Some(show(engine, token, rank, few, words)),
-        Err(_) => None,
-    }
+) -> Result<Shown, StartFault> {
+    let token = engine.start(job, inputs)?;
+    let turned = engine.turn(&token, rank);
+    let looked = engine.look(&token);
+    let (short, ended) = match engine.end(token, few) {
+        Ok(tally) => (Ok(tally), Err(EndFault::UnknownJob)),
+        Err((fault, back)) => (Err(fault), finish(engine, back, words)),
+    };
+    Ok(Shown {
+        turned,
+        looked,
+        short,
+        ended,
+    })
 }
 
-// Starts a job on one engine and shows its token to another.
+// What the calls of an engine answer that are shown a token of another one.
+#[derive(Clone, Copy)]
+struct Foreign {
+    turned: Result<Turn, TurnFault>,
+    looked: Result<usize, UnknownJob>,
+    ended: Result<Tally, EndFault>,
+    given_up: Result<(), UnknownJob>,
+}
+
+// Starts a job on one engine and shows its token to another, which has a job of its own.
 fn show_to_another<O: Operation, T: Transport>(
     engine: &mut Engine<O, T>,
     other: &mut Engine<O, T>,
     inputs: &[u32],
     words: &mut [u32],
-) -> Option<(Shown, Result<(), UnknownJob>)>
-    requires sound { Sound O.Operation.meaning T.Transport.meaning T.Transport.sound engine.old }
-    requires other_sound { Sound O.Operation.meaning T.Transport.meaning T.Transport.sound other.old }
-    ensures sound { Sound O.Operation.meaning T.Transport.meaning T.Transport.sound engine.new }
-    ensures other_sound { Sound O.Operation.meaning T.Transport.meaning T.Transport.sound other.new }
-{
-    let (mine, _) = begin(other, Collective::Scan, inputs);
-    let (slot, _) = begin(engine, Collective::Scan, inputs);
-    let shown = show_and_give_up(other, slot, words);
+) -> Result<Foreign, StartFault> {
+    let mine = other.start(Collective::Scan, inputs);
+    let shown = match engine.start(Collective::Scan, inputs) {
+        Ok(token) => Ok(show_foreign(other, token, words)),
+        Err(fault) => Err(fault),
+    };
     give_up(other, mine);
     shown
 }
 
-// Shows a token, if there is one, to a turn, a look and an end, and gives its job up.
-fn show_and_give_up<O: Operation, T: Transport>(
+// Shows a token to a turn, a look and an end, and gives its job up.
+fn show_foreign<O: Operation, T: Transport>(
     engine: &mut Engine<O, T>,
-    slot: Option<Token>,
+    token: Token,
     words: &mut [u32],
-) -> Option<(Shown, Result<(), UnknownJob>)>
-    requires { Sound O.Operation.meaning T.Transport.meaning T.Transport.sound engine.old }
-    ensures { Sound O.Operation.meaning T.Transport.meaning T.Transport.sound engine.new }
-{
-    let token = slot?;
+) -> Foreign {
     let turned = engine.turn(&token, 3);
     let looked = engine.look(&token);
-    let short = Err(EndFault::UnknownJob);
-    match engine.end(token, words) {
-        Ok(tally) => {
-            let ended = Ok(tally);
-            let shown = Shown {
-                turned,
-                looked,
-                short,
-                ended,
-            };
-            Some((shown, Ok(())))
-        }
-        Err((fault, back)) => {
-            let ended = Err(fault);
-            let shown = Shown {
-                turned,
-                looked,
-                short,
-                ended,
-            };
-            Some((shown, engine.abandon(back)))
-        }
+    let (ended, given_up) = match engine.end(token, words) {
+        Ok(tally) => (Ok(tally), Ok(())),
+        Err((fault, back)) => (Err(fault), engine.abandon(back)),
+    };
+    Foreign {
+        turned,
+        looked,
+        ended,
+        given_up,
     }
 }
 
@@ -251,19 +178,24 @@ fn interleave<O: Operation, T: Transport>(
     engine: &mut Engine<O, T>,
     first: &Token,
     second: &Token,
-) -> [Result<Turn, TurnFault>; 6]
-    requires { Sound O.Operation.meaning T.Transport.meaning T.Transport.sound engine.old }
-    ensures { Sound O.Operation.meaning T.Transport.meaning T.Transport.sound engine.new }
-{
+) -> [Result<Turn, TurnFault>; 6] {
+    let pair = Pair { from: 0, to: 1 };
     let a = engine.turn(first, 0);
     let b = engine.turn(second, 0);
-    let _ = engine.carry(0, 1);
-    let _ = engine.carry(0, 1);
+    let _ = engine.carry(pair);
+    let _ = engine.carry(pair);
     let c = engine.turn(second, 1);
     let d = engine.turn(second, 1);
     let e = engine.turn(first, 1);
     let f = engine.turn(first, 1);
     [a, b, c, d, e, f]
+}
+
+// The blocks of a scan, and the words lent for its answer.
+#[derive(Drop)]
+struct Blocks<'a> {
+    inputs: &'a [u32],
+    out: &'a mut [u32],
 }
 
 // How two jobs beside each other came out.
@@ -278,60 +210,45 @@ struct Beside {
 fn settle_both<O: Operation, T: Transport>(
     engine: &mut Engine<O, T>,
     first: Token,
-    slot: Option<Token>,
+    second: Token,
     keep: bool,
     one: &mut [u32],
     two: &mut [u32],
-) -> Option<Beside>
-    requires { Sound O.Operation.meaning T.Transport.meaning T.Transport.sound engine.old }
-    ensures { Sound O.Operation.meaning T.Transport.meaning T.Transport.sound engine.new }
-{
-    let Some(second) = slot else {
-        give_up(engine, Some(first));
-        return None;
-    };
+) -> Beside {
     let turns = interleave(engine, &first, &second);
     if keep {
         let _ = run(engine, &first, 16);
         let _ = run(engine, &second, 16);
-        let first = finish(engine, Some(first), one);
-        let second = finish(engine, Some(second), two);
-        return Some(Beside {
+        let first = finish(engine, first, one);
+        let second = finish(engine, second, two);
+        return Beside {
             turns,
             first,
             second,
-        });
+        };
     }
-    give_up(engine, Some(second));
+    let _ = engine.abandon(second);
     let _ = run(engine, &first, 16);
-    let first = finish(engine, Some(first), one);
-    let second = Err(EndFault::UnknownJob);
-    Some(Beside {
+    Beside {
         turns,
-        first,
-        second,
-    })
+        first: finish(engine, first, one),
+        second: Err(EndFault::UnknownJob),
+    }
 }
 
 // Two scans beside each other.
 fn two_scans<O: Operation, T: Transport>(
     engine: &mut Engine<O, T>,
-    inputs: &[u32],
-    others: &[u32],
+    one: Blocks,
+    two: Blocks,
     keep: bool,
-    one: &mut [u32],
-    two: &mut [u32],
-) -> Option<Beside>
-    requires { Sound O.Operation.meaning T.Transport.meaning T.Transport.sound engine.old }
-    ensures { Sound O.Operation.meaning T.Transport.meaning T.Transport.sound engine.new }
-{
-    let (slot, _) = begin(engine, Collective::Scan, inputs);
-    let (other, _) = begin(engine, Collective::Scan, others);
-    match slot {
-        Some(first) => settle_both(engine, first, other, keep, one, two),
-        None => {
-            give_up(engine, other);
-            None
+) -> Result<Beside, StartFault> {
+    let first = engine.start(Collective::Scan, one.inputs)?;
+    match engine.start(Collective::Scan, two.inputs) {
+        Ok(second) => Ok(settle_both(engine, first, second, keep, one.out, two.out)),
+        Err(fault) => {
+            let _ = engine.abandon(first);
+            Err(fault)
         }
     }
 }
@@ -339,13 +256,15 @@ fn two_scans<O: Operation, T: Transport>(
 #[cfg(test)]
 mod tests {
     use super::{
-        five_jobs, refusal, scans, show_to_another, spend_numbers, start_and_show, two_scans,
+        Blocks, five_jobs, refusal, scans, show_to_another, spend_numbers, start_and_show,
+        two_scans,
     };
     use engine::answer::{EndFault, StartFault, Tally, Turn, TurnFault, UnknownJob};
     use engine::state::Engine;
     use mailbox::Mailbox;
     use operation::affine::Affine;
     use operation::fault::BlockFault;
+    use ranks::Pair;
     use schedule::Collective;
     use segmented::Segmented;
     use shared_log::{Log, Record};
@@ -391,7 +310,7 @@ mod tests {
         let op = Affine::new(10)?;
         let mut records = [BLANK; 8];
         let mut log = Log::new(3, &mut records);
-        let sent = log.send(0, 1, 5, &[1]);
+        let sent = log.send(Pair { from: 0, to: 1 }, 5, &[1]);
         let mut engine = Engine::new(7, op, log);
         let fault = refusal(&mut engine, Collective::Scan, &MAPS);
         let (_, _log) = engine.into_parts();
@@ -473,11 +392,11 @@ mod tests {
         let seen = show_to_another(&mut engine, &mut other, &MAPS, &mut out);
         let (_, _log) = engine.into_parts();
         let (_, _other) = other.into_parts();
-        let (shown, given_up) = seen.ok_or("no token")?;
+        let shown = seen?;
         assert_eq!(rt; shown.turned, Err(TurnFault::UnknownJob));
         assert_eq!(rt; shown.looked, Err(UnknownJob));
         assert_eq!(rt; shown.ended, Err(EndFault::UnknownJob));
-        assert_eq!(rt; given_up, Err(UnknownJob));
+        assert_eq!(rt; shown.given_up, Err(UnknownJob));
         assert_eq!(rt; out, [7; 6]);
         Ok(())
     }
@@ -491,7 +410,7 @@ mod tests {
         let mut out = [7; 6];
         let seen = start_and_show(&mut engine, Collective::Scan, &MAPS, 3, &mut few, &mut out);
         let (_, _log) = engine.into_parts();
-        let shown = seen.ok_or("no token")?;
+        let shown = seen?;
         assert_eq!(rt; shown.turned, Err(TurnFault::BadRank));
         assert_eq!(rt; shown.looked, Ok(0));
         assert_eq!(rt; shown.short, Err(EndFault::Unfinished));
@@ -517,7 +436,7 @@ mod tests {
             &mut out,
         );
         let (_, _log) = engine.into_parts();
-        let shown = seen.ok_or("no token")?;
+        let shown = seen?;
         assert_eq!(rt; shown.turned, Ok(Turn::Through));
         assert_eq!(rt; shown.looked, Ok(1));
         assert_eq!(rt; shown.short, Err(EndFault::TooFewWords));
@@ -536,9 +455,9 @@ mod tests {
         let op = Affine::new(10)?;
         let mut records = [BLANK; 2];
         let mut engine = Engine::new(7, op, Log::new(3, &mut records));
-        let past = engine.carry(0, 3);
-        let same = engine.carry(1, 1);
-        let none = engine.carry(0, 1);
+        let past = engine.carry(Pair { from: 0, to: 3 });
+        let same = engine.carry(Pair { from: 1, to: 1 });
+        let none = engine.carry(Pair { from: 0, to: 1 });
         let (_, _log) = engine.into_parts();
         assert_eq!(rt; past, Err(Fault::BadPair));
         assert_eq!(rt; same, Err(Fault::BadPair));
@@ -570,9 +489,20 @@ mod tests {
         let mut engine = Engine::new(7, op, Log::new(3, &mut records));
         let mut one = [7; 7];
         let mut two = [7; 7];
-        let seen = two_scans(&mut engine, &MAPS, &OTHERS, true, &mut one, &mut two);
+        let seen = two_scans(
+            &mut engine,
+            Blocks {
+                inputs: &MAPS,
+                out: &mut one,
+            },
+            Blocks {
+                inputs: &OTHERS,
+                out: &mut two,
+            },
+            true,
+        );
         let (_, _log) = engine.into_parts();
-        let beside = seen.ok_or("no token")?;
+        let beside = seen?;
         assert_eq!(rt; beside.turns, TURNS);
         assert_eq!(rt; beside.first, Ok(SCAN));
         assert_eq!(rt; beside.second, Ok(SCAN));
@@ -588,10 +518,21 @@ mod tests {
         let mut engine = Engine::new(7, op, Log::new(3, &mut records));
         let mut one = [7; 6];
         let mut two = [7; 6];
-        let seen = two_scans(&mut engine, &MAPS, &OTHERS, false, &mut one, &mut two);
+        let seen = two_scans(
+            &mut engine,
+            Blocks {
+                inputs: &MAPS,
+                out: &mut one,
+            },
+            Blocks {
+                inputs: &OTHERS,
+                out: &mut two,
+            },
+            false,
+        );
         let (_, log) = engine.into_parts();
         let waiting = log.waiting();
-        let beside = seen.ok_or("no token")?;
+        let beside = seen?;
         assert_eq!(rt; beside.turns, TURNS);
         assert_eq!(rt; beside.first, Ok(SCAN));
         assert_eq!(rt; one, [2, 1, 6, 7, 0, 1]);

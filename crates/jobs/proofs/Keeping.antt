@@ -1,11 +1,11 @@
 -- The root of a gather keeps what it takes, with each of its actions; no other rank does.
-use Rattle.std.proofs.Common.{◌≡◌, ℕ, zero, suc, ◌+◌, ◌-◌, ◌*◌, ◌/◌, ◌%◌, ◌^◌, ◌<◌, ◌≤◌, Bool, true, false, cond, not, ◌&&◌, eqb, ltb, leb, List, [], ◌∷◌, ◌++◌, length, sym, refl, ◌∙◌, subst, arith, length-append}
+use Rattle.std.proofs.Common.{◌≡◌, ℕ, zero, suc, ◌+◌, ◌-◌, ◌*◌, ◌/◌, ◌%◌, ◌^◌, ◌<◌, ◌≤◌, Bool, true, false, cond, not, eqb, leb, List, [], ◌∷◌, ◌++◌, length, sym, refl, ◌∙◌, subst, arith, length-append}
 use mathlib.Core.Option.{some}
 use lib.ListN.{get_elem?}
 use Rattle.std.specs.List.{AllByRecursion}
 use Rattle.std.proofs.lemmas.Bool.{ne_eqb, eqb-true}
 use Rattle.programme.specs.Levels.{levels, floor_log, surplus}
-use Rattle.programme.specs.Label.{hand_in, hand_back, deliver, collect}
+use Rattle.programme.specs.Label.{hand_in, hand_back, collect}
 use Rattle.programme.specs.declared.Action.{Action}
 use Rattle.programme.specs.declared.Action.TheVariants.{Send, Take}
 use Rattle.programme.specs.declared.Merge.{Merge}
@@ -58,27 +58,18 @@ gathers p root r = go (eqb r root)
 
 folds : (p r k : ℕ) → Only false (fold_step p r k)
 unfolding fold_step
-folds p r k =
-    only_cond false (eqb (r % 2 ^ k) 0) (cond (bit r k) (Send (r - 2 ^ k) k ∷ []) (when (ltb (r + 2 ^ k) p) (Take (r + 2 ^ k) k After))) []
-    (only_cond false (bit r k) (Send (r - 2 ^ k) k ∷ []) (when (ltb (r + 2 ^ k) p) (Take (r + 2 ^ k) k After)) (refl, tt)
-    (only_when false (ltb (r + 2 ^ k) p) (Take (r + 2 ^ k) k After) refl))
-    tt
+folds p r k = only_cond false _ (cond _ (Send _ _ ∷ []) (when _ _)) [] (only_cond false _ (Send _ _ ∷ []) (when _ _) (refl, tt) (only_when false _ _ refl)) tt
 
 reduces : (p root r : ℕ) → Only false (reduce p root r)
 unfolding reduce
 reduces p root r =
-    only_append false (steps (fold_step p r) (levels p) ++ when (not (eqb root 0) && eqb r 0) (Send root deliver)) (when (not (eqb root 0) && eqb r root) (Take 0 deliver Replace))
-    (only_append false (steps (fold_step p r) (levels p)) (when (not (eqb root 0) && eqb r 0) (Send root deliver))
-    (only_steps false (fold_step p r) (levels p) (folds p r))
-    (only_when false (not (eqb root 0) && eqb r 0) (Send root deliver) refl))
-    (only_when false (not (eqb root 0) && eqb r root) (Take 0 deliver Replace) refl)
+    only_append false (steps _ _ ++ when _ _) (when _ _)
+    (only_append false (steps _ _) (when _ _) (only_steps false _ _ (folds p r)) (only_when false _ _ refl))
+    (only_when false _ _ refl)
 
 scans : (merge : Merge) → ((from label : ℕ) → is_keep (Take from label merge) ≡ false) → (p r k : ℕ) → Only false (scan_step merge p r k)
 unfolding scan_step
-scans merge e p r k =
-    only_append false (when (ltb (r + 2 ^ k) p) (Send (r + 2 ^ k) k)) (when (leb (2 ^ k) r) (Take (r - 2 ^ k) k merge))
-    (only_when false (ltb (r + 2 ^ k) p) (Send (r + 2 ^ k) k) refl)
-    (only_when false (leb (2 ^ k) r) (Take (r - 2 ^ k) k merge) (e (r - 2 ^ k) k))
+scans merge e p r k = only_append false (when _ _) (when _ _) (only_when false _ _ refl) (only_when false _ _ (e (r - 2 ^ k) k))
 
 exchanges : (p n k : ℕ) → Only false (exchange_step p n k)
 unfolding exchange_step

@@ -1,5 +1,5 @@
 -- The jobs of the plain machine that a table stands for.
-use Rattle.std.specs.Prelude.{ℕ, suc, ◌+◌, ◌-◌, Bool, false, cond, List, [], ◌∷◌, length, get_or, take, replicate, Some, None, Option, ◌==◌, nat_le, nat_lt, slice_index_or, slice_set}
+use Rattle.std.specs.Prelude.{ℕ, suc, ◌+◌, ◌-◌, Bool, false, cond, List, [], ◌∷◌, map, length, take, replicate, Some, None, Option, ◌==◌, nat_le, nat_lt, slice_index_or, slice_set}
 use Rattle.ranks.specs.Ranks.{most_ranks, sum_below}
 use Rattle.programme.specs.Rank.{Rank}
 use Rattle.programme.specs.declared.Merge.{Merge}
@@ -10,7 +10,6 @@ use Rattle.schedule.specs.Collective.{kind_of, root_of, actions_of, messages_of}
 use Rattle.schedule.specs.declared.Schedule.{Schedule}
 use Rattle.machine.specs.Job as machine
 use Rattle.jobs.specs.declared.job.Job.{Job}
-use Rattle.jobs.specs.declared.job.Progress.{Progress}
 use Rattle.jobs.specs.declared.job.RankState.{RankState}
 use Rattle.jobs.specs.declared.table.Table.{Table}
 
@@ -38,21 +37,9 @@ result_count Exscan p = p
 result_count Allreduce p = p
 
 module _ {E : Type 0} where
-  -- what a rank has come to, its value and the rest
-  abbrev pub state_of : Progress E → (value : E) → RankState E
-  state_of x v = record { done = x.done; value = v; prefix = x.prefix; arrival = x.arrival; departure = x.departure }
-
-  abbrev pub progress_of : RankState E → Progress E
-  progress_of s = record { done = s.done; prefix = s.prefix; arrival = s.arrival; departure = s.departure }
-
   -- what the ranks have come to, rank by rank
-  abbrev pub states_from : List (Progress E) → (values : List E) → List (RankState E)
-  states_from [] vs = []
-  states_from (x ∷ xs) [] = []
-  states_from (x ∷ xs) (v ∷ vs) = state_of x v ∷ states_from xs vs
-
   abbrev pub states : Job E → List (RankState E)
-  states j = states_from j.progress j.values
+  states j = j.states
 
   -- rank r of the plain machine; `kept` is what the rank that keeps has taken
   abbrev pub rank_in : Collective → (kept : List E) → (r : ℕ) → RankState E → Rank E
@@ -79,15 +66,18 @@ module _ {E : Type 0} where
   abbrev pub pending_jobs : Table E → List (Job E)
   pending_jobs t = take t.pending t.jobs
 
+  -- a rank that holds its input, of which no action is done
+  abbrev pub first_state : (unit input : E) → RankState E
+  first_state unit input = record { done = 0; value = input; prefix = unit; arrival = 0; departure = 0 }
+
   -- a job of which no action is done
   abbrev pub first_job : ℕ → Schedule → (inputs : List E) → (unit : E) → Job E
   first_job number schedule inputs unit = record {
     number = number;
     schedule = schedule;
     inputs = inputs;
-    values = inputs;
+    states = map (first_state unit) inputs;
     kept = replicate most_ranks unit;
-    progress = replicate most_ranks (record { done = 0; prefix = unit; arrival = 0; departure = 0 });
     sent = 0;
   }
 
@@ -105,9 +95,8 @@ module _ {E : Type 0} where
     number = j.number;
     schedule = j.schedule;
     inputs = j.inputs;
-    values = slice_set j.values r s.value;
+    states = slice_set j.states r s;
     kept = j.kept;
-    progress = slice_set j.progress r (progress_of s);
     sent = sent;
   }
 
@@ -120,9 +109,8 @@ module _ {E : Type 0} where
     number = j.number;
     schedule = j.schedule;
     inputs = j.inputs;
-    values = j.values;
+    states = j.states;
     kept = slice_set j.kept at v;
-    progress = j.progress;
     sent = j.sent;
   }
 
@@ -140,29 +128,29 @@ module _ {E : Type 0} where
 
   -- whether a rank has no action left, and how many of the first n; d is what stands past the ranks
   abbrev pub idle_at : Job E → (d : RankState E) → ℕ → Bool
-  idle_at j d r = nat_le (length (actions_of j.schedule.collective j.schedule.ranks r)) (get_or (states j) r d).done
+  idle_at j d r = nat_le (length (actions_of j.schedule.collective j.schedule.ranks r)) (slice_index_or (states j) r d).done
 
   abbrev pub idle_below : Job E → (d : RankState E) → ℕ → ℕ
   idle_below j d n = sum_below (λ r. cond (idle_at j d r) 1 0) n
 
   -- the arrival of a rank
   abbrev pub arrival_at : Job E → (d : RankState E) → ℕ → ℕ
-  arrival_at j d r = (get_or (states j) r d).arrival
+  arrival_at j d r = (slice_index_or (states j) r d).arrival
 
   -- what the root of a gather has from rank r
   abbrev pub gathered_at : Job E → (d : RankState E) → (root r : ℕ) → E
   gathered_at j d root r =
       cond (nat_lt r root) (slice_index_or j.kept r d.value)
-      (cond (r == root) (get_or (states j) root d).value (slice_index_or j.kept (r - 1) d.value))
+      (cond (r == root) (slice_index_or (states j) root d).value (slice_index_or j.kept (r - 1) d.value))
 
   -- the element at index i of what a finished job gives
   abbrev pub result_in : Collective → Job E → (d : RankState E) → ℕ → E
-  result_in (Broadcast root) j d i = (get_or (states j) i d).value
+  result_in (Broadcast root) j d i = (slice_index_or (states j) i d).value
   result_in (Gather root) j d i = gathered_at j d root i
-  result_in (Reduce root) j d i = (get_or (states j) root d).value
-  result_in Scan j d i = (get_or (states j) i d).value
-  result_in Exscan j d i = (get_or (states j) i d).prefix
-  result_in Allreduce j d i = (get_or (states j) i d).value
+  result_in (Reduce root) j d i = (slice_index_or (states j) root d).value
+  result_in Scan j d i = (slice_index_or (states j) i d).value
+  result_in Exscan j d i = (slice_index_or (states j) i d).prefix
+  result_in Allreduce j d i = (slice_index_or (states j) i d).value
 
   abbrev pub result_at : Job E → (d : RankState E) → ℕ → E
   result_at j d i = result_in j.schedule.collective j d i

@@ -5,24 +5,16 @@ use ranks::MAX_RANKS;
 use schedule::Schedule;
 use std::alloc::AllocError;
 
-// What a rank of a job has come to, but for its value.
-#[derive(Clone, Copy)]
-pub struct Progress<E> {
-    // actions done
-    pub(crate) done: usize,
-    // the join of the values taken, for an exclusive scan
-    pub(crate) prefix: E,
-    // the rounds of the latest arrival and of the latest departure, at first 0
-    pub(crate) arrival: u32,
-    pub(crate) departure: u32,
-}
-
-// All that a rank of a job has come to.
+// What a rank of a job has come to.
 #[derive(Clone, Copy)]
 pub struct RankState<E> {
+    // actions done
     pub done: usize,
+    // at first the rank's input
     pub value: E,
+    // the join of the values taken, for an exclusive scan
     pub prefix: E,
+    // the rounds of the latest arrival and of the latest departure, at first 0
     pub arrival: u32,
     pub departure: u32,
 }
@@ -33,11 +25,9 @@ pub struct Job<E> {
     pub(crate) number: u32,
     pub(crate) schedule: Schedule,
     pub(crate) inputs: [E; MAX_RANKS],
-    // at first the inputs
-    pub(crate) values: [E; MAX_RANKS],
+    pub(crate) states: [RankState<E>; MAX_RANKS],
     // what the root of a gather has taken, in the order of the takes
     pub(crate) kept: [E; MAX_RANKS],
-    pub(crate) progress: [Progress<E>; MAX_RANKS],
     // turns answered sent
     pub(crate) sent: usize,
 }

@@ -1,17 +1,17 @@
 // The pending jobs of an engine, by place.
 #![tactic(auto)]
 
-ghost use Rattle.std.specs.Prelude.{◌≡◌, ℕ, ◌+◌, ◌^◌, ◌<◌, ◌≤◌, true, [], ◌∷◌, ◌++◌, length, get_or, take, is_some, slice_index_or, slice_set};
+ghost use Rattle.std.specs.Prelude.{◌≡◌, ℕ, ◌+◌, ◌^◌, ◌<◌, ◌≤◌, true, [], ◌∷◌, ◌++◌, map, length, is_some, slice_index_or, ◌==◌};
 ghost use Rattle.std.specs.List.{slice_get, remove};
 ghost use Rattle.ranks.specs.Ranks.{most_ranks, greatest_below};
 ghost use Rattle.programme.specs.declared.Merge.TheVariants.{Keep};
-ghost use Rattle.schedule.specs.Collective.{actions_of};
+ghost use Rattle.schedule.specs.Collective.{actions_of, messages_of};
 ghost use Rattle.jobs.specs.declared.job.Job.{Job};
 ghost use Rattle.jobs.specs.declared.job.RankState.{RankState};
-ghost use Rattle.jobs.specs.Tables.{states, first_job, pending_jobs, place, with_state, with_sent, with_kept, with_received, idle_at, idle_below, arrival_at, gathered_at, result_count, result_at, messages_in};
+ghost use Rattle.jobs.specs.Tables.{states, first_state, first_job, pending_jobs, place, with_sent, with_received, idle_at, idle_below, arrival_at, gathered_at, result_count, result_at, messages_in};
 ghost use Rattle.jobs.specs.Updates.{update};
 
-use job::{Job, Progress, RankState};
+use job::{Job, RankState};
 use programme::{Action, Merge};
 use ranks::MAX_RANKS;
 use schedule::{Collective, Schedule};
@@ -25,29 +25,21 @@ impl<E: Copy> Job<E> {
     pub fn new(number: u32, schedule: Schedule, inputs: [E; MAX_RANKS], unit: E) -> Job<E>
         ensures { result ≡ first_job number schedule inputs unit }
     {
-        let progress = Progress {
-            done: 0,
-            prefix: unit,
-            arrival: 0,
-            departure: 0,
-        };
+        let mut states = [first_state(unit, unit); MAX_RANKS];
+        hold_inputs(&mut states, &inputs, unit);
         Job {
             number,
             schedule,
             inputs,
-            values: inputs,
+            states,
             kept: [unit; MAX_RANKS],
-            progress: [progress; MAX_RANKS],
             sent: 0,
         }
     }
 
     // What stands in a place that no job has.
     pub fn blank(x: E) -> Job<E> {
-        let schedule = match Schedule::new(Collective::Scan, 1) {
-            Some(schedule) => schedule,
-            None => unreachable(),
-        };
+        let schedule = Schedule::new(Collective::Scan, 1).unwrap();
         Job::new(0, schedule, [x; MAX_RANKS], x)
     }
 
@@ -56,21 +48,14 @@ impl<E: Copy> Job<E> {
         requires { rank < most_ranks }
         ensures { (d : RankState E) → result ≡ slice_index_or (states self.now) rank d }
     {
-        let progress = self.progress[rank];
-        RankState {
-            done: progress.done,
-            value: self.values[rank],
-            prefix: progress.prefix,
-            arrival: progress.arrival,
-            departure: progress.departure,
-        }
+        self.states[rank]
     }
 
     // The rank's next action, None where it has none left.
     pub fn next_action(&self, rank: usize) -> Option<Action>
         requires { rank < self.now.schedule.ranks }
-        ensures here { (d : RankState E) → result ≡ slice_get (actions_of self.now.schedule.collective self.now.schedule.ranks rank) (get_or (states self.now) rank d).done }
-        ensures few { is_some result ≡ true → (d : RankState E) → (get_or (states self.now) rank d).done + 1 < 2 ^ 64 }
+        ensures here { (d : RankState E) → result ≡ slice_get (actions_of self.now.schedule.collective self.now.schedule.ranks rank) (slice_index_or (states self.now) rank d).done }
+        ensures few { is_some result ≡ true → (d : RankState E) → (slice_index_or (states self.now) rank d).done + 1 < 2 ^ 64 }
     {
         let done = self.state(rank).done;
         if done >= self.schedule.length(rank) {
@@ -105,13 +90,9 @@ impl<E: Copy> Job<E> {
     pub fn rounds(&self) -> u32
         ensures { (d : RankState E) → result ≡ greatest_below (arrival_at self.now d) self.now.schedule.ranks }
     {
-        let ranks = self.schedule.ranks();
         let mut rounds = 0;
-        for rank in 0..ranks {
-            let arrival = self.state(rank).arrival;
-            if arrival > rounds {
-                rounds = arrival;
-            }
+        for rank in 0..self.schedule.ranks() {
+            rounds = rounds.max(self.state(rank).arrival);
         }
         rounds
     }
@@ -123,13 +104,24 @@ impl<E: Copy> Job<E> {
         self.sent
     }
 
+    // The messages of the job, by the formula.
+    fn messages(&self) -> usize
+        ensures { result ≡ messages_of self.now.schedule.collective self.now.schedule.ranks }
+    {
+        self.schedule.messages()
+    }
+
     // How many elements a finished job gives.
     pub fn result_count(&self) -> usize
         ensures { result ≡ result_count self.now.schedule.collective self.now.schedule.ranks }
     {
         match self.schedule.collective() {
             Collective::Reduce { .. } => 1,
-            _ => self.schedule.ranks(),
+            Collective::Broadcast { .. }
+            | Collective::Gather { .. }
+            | Collective::Scan
+            | Collective::Exscan
+            | Collective::Allreduce => self.schedule.ranks(),
         }
     }
 
@@ -142,8 +134,9 @@ impl<E: Copy> Job<E> {
             Collective::Gather { root } => self.gathered(root, index),
             Collective::Reduce { root } => self.state(root).value,
             Collective::Exscan => self.state(index).prefix,
-            Collective::Broadcast { .. } => self.state(index).value,
-            Collective::Scan | Collective::Allreduce => self.state(index).value,
+            Collective::Broadcast { .. } | Collective::Scan | Collective::Allreduce => {
+                self.state(index).value
+            }
         }
     }
 
@@ -166,45 +159,43 @@ impl<E: Copy> Job<E> {
         requires { (rank < most_ranks) × (self.old.sent + 1 < 2 ^ 64) }
         ensures { self.new ≡ with_sent rank state self.old }
     {
-        let sent = self.sent + 1;
-        self.put(rank, state, sent);
+        self.states[rank] = state;
+        self.sent += 1;
     }
 
     // What a take leaves: the rank's new state, and the value where the rank keeps it.
     pub fn receive(&mut self, rank: usize, state: RankState<E>, merge: Merge, at: usize, value: E)
         requires { (rank < most_ranks) × (merge ≡ Keep → at < most_ranks) }
         ensures changed { self.new ≡ with_received rank state merge at value self.old }
-        ensures front { merge ≡ Keep → take (at + 1) (slice_set self.old.kept at value) ≡ take at self.old.kept ++ (value ∷ []) }
+        ensures room { length self.old.kept ≡ most_ranks }
     {
-        if let Merge::Keep = merge {
-            self.keep(at, value);
+        if merge == Merge::Keep {
+            self.kept[at] = value;
         }
-        let sent = self.sent;
-        self.put(rank, state, sent);
+        self.states[rank] = state;
     }
+}
 
-    // Writes what a rank has come to, and the count of turns answered sent.
-    fn put(&mut self, rank: usize, state: RankState<E>, sent: usize)
-        requires { rank < most_ranks }
-        ensures { self.new ≡ with_state rank state sent self.old }
-    {
-        self.values[rank] = state.value;
-        self.progress[rank] = Progress {
-            done: state.done,
-            prefix: state.prefix,
-            arrival: state.arrival,
-            departure: state.departure,
-        };
-        self.sent = sent;
+// Lets each rank hold its input.
+fn hold_inputs<E: Copy>(states: &mut [RankState<E>], inputs: &[E], unit: E)
+    requires { length states.old ≡ length inputs.now }
+    ensures { states.new ≡ map (first_state unit) inputs.now }
+{
+    for (rank, state) in states.iter_mut().enumerate() {
+        *state = first_state(unit, inputs[rank]);
     }
+}
 
-    // Keeps a value that the root of a gather has taken.
-    fn keep(&mut self, at: usize, value: E)
-        requires { at < most_ranks }
-        ensures changed { self.new ≡ with_kept at value self.old }
-        ensures front { take (at + 1) (slice_set self.old.kept at value) ≡ take at self.old.kept ++ (value ∷ []) }
-    {
-        self.kept[at] = value;
+// A rank that holds its input, of which no action is done.
+fn first_state<E: Copy>(unit: E, input: E) -> RankState<E>
+    ensures { result ≡ first_state unit input }
+{
+    RankState {
+        done: 0,
+        value: input,
+        prefix: unit,
+        arrival: 0,
+        departure: 0,
     }
 }
 
@@ -231,12 +222,7 @@ impl<E: Copy> Table<E> {
         requires { messages_in (pending_jobs self.now) < 2 ^ 64 }
         ensures { result ≡ messages_in (pending_jobs self.now) }
     {
-        let mut total = 0;
-        for k in 0..self.pending {
-            let schedule = self.jobs[k].schedule;
-            total += schedule.messages();
-        }
-        total
+        self.jobs[..self.pending].iter().map(Job::messages).sum()
     }
 
     // The pending job at a place.
@@ -251,17 +237,16 @@ impl<E: Copy> Table<E> {
     pub fn find(&self, number: u32) -> Option<usize>
         ensures { result ≡ place number (pending_jobs self.now) }
     {
-        for k in 0..self.pending {
-            if self.jobs[k].number == number {
-                return Some(k);
-            }
-        }
-        None
+        self.jobs[..self.pending].iter().position(
+            |job| -> bool
+                ensures { result ≡ (job.now.number == number) }
+            { job.number == number },
+        )
     }
 
     // What a send of a rank of the job at a place leaves.
     pub fn send(&mut self, i: usize, rank: usize, state: RankState<E>)
-        requires { (i < length (pending_jobs self.old)) × (rank < most_ranks) × ((d : Job E) → (get_or (pending_jobs self.old) i d).sent + 1 < 2 ^ 64) }
+        requires { (i < length (pending_jobs self.old)) × (rank < most_ranks) × ((d : Job E) → (slice_index_or (pending_jobs self.old) i d).sent + 1 < 2 ^ 64) }
         ensures { pending_jobs self.new ≡ update i (with_sent rank state) (pending_jobs self.old) }
     {
         self.jobs[i].send(rank, state);
@@ -279,7 +264,7 @@ impl<E: Copy> Table<E> {
     )
         requires { (i < length (pending_jobs self.old)) × (rank < most_ranks) × (merge ≡ Keep → at < most_ranks) }
         ensures changed { pending_jobs self.new ≡ update i (with_received rank state merge at value) (pending_jobs self.old) }
-        ensures front { merge ≡ Keep → (d : Job E) → take (at + 1) (slice_set (get_or (pending_jobs self.old) i d).kept at value) ≡ take at (get_or (pending_jobs self.old) i d).kept ++ (value ∷ []) }
+        ensures room { (d : Job E) → length (slice_index_or (pending_jobs self.old) i d).kept ≡ most_ranks }
     {
         self.jobs[i].receive(rank, state, merge, at, value);
     }
@@ -289,9 +274,8 @@ impl<E: Copy> Table<E> {
         requires { length (pending_jobs self.old) < 4 }
         ensures { pending_jobs self.new ≡ pending_jobs self.old ++ (job ∷ []) }
     {
-        let at = self.pending;
-        self.jobs[at] = job;
-        self.pending = at + 1;
+        self.jobs[self.pending] = job;
+        self.pending += 1;
     }
 
     // Removes the job at a place; the later ones move up.
@@ -299,18 +283,7 @@ impl<E: Copy> Table<E> {
         requires { i < length (pending_jobs self.old) }
         ensures { pending_jobs self.new ≡ remove (pending_jobs self.old) i }
     {
-        let last = self.pending - 1;
-        for k in i..last {
-            self.jobs[k] = self.jobs[k + 1];
-        }
-        self.pending = last;
-    }
-
-    // Ends the table.
-    pub fn discard(self) {
-        let Table {
-            jobs: _,
-            pending: _,
-        } = self;
+        self.jobs.copy_within(i + 1..self.pending, i);
+        self.pending -= 1;
     }
 }

@@ -7,6 +7,7 @@ use crate::job::Job;
 pub const MAX_PENDING: usize = 4;
 
 // The pending jobs, in the order in which they were started.
+#[derive(Drop)]
 pub struct Table<E> {
     pub(crate) jobs: [Job<E>; MAX_PENDING],
     pub(crate) pending: usize,

@@ -10,30 +10,21 @@ use transport::Transport;
 
 // The laws of every record of calls whose answers are the plain machine's: what each end has written
 // and counted, turns of different ranks that trade positions, progress, and the refusals in their order.
-pub fn record_laws<E>() -> bool
+pub fn record_laws<E>()
     ensures { MachineLaws E }
-{
-    true
-}
+{}
 
 // The same of an engine made of these two.
-pub fn made_laws<O: Operation, T: Transport>(name: u16, operation: &O, transport: &T) -> bool
-    requires { T.Transport.sound transport.now }
-    ensures { RecordLaws name (O.Operation.meaning operation.now) (T.Transport.meaning transport.now) }
-{
-    true
-}
+pub fn made_laws<O: Operation, T: Transport>(name: u16, operation: &O, transport: &T)
+    ensures { RecordLaws name (O.meaning operation.now) (T.meaning transport.now) }
+{}
 
 // Three whole runs: a scan with refused calls on the way, two jobs beside each other, one abandoned.
-pub fn runs_stand() -> bool
+pub fn runs_stand()
     ensures { Runs }
-{
-    true
-}
+{}
 
 // All worked figures.
-pub fn figures_stand() -> bool
+pub fn figures_stand()
     ensures { Figures }
-{
-    true
-}
+{}

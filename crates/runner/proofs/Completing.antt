@@ -2,11 +2,14 @@
 use Rattle.std.proofs.Common.{◌≡◌, ℕ, ◌<◌, ◌≤◌, Bool, true, List, [], ◌∷◌, ◌++◌, map, Ok, sym, refl, ap, ◌∙◌, subst, ap₂, inl, arith}
 use mathlib.Core.Option.{Option, none, some}
 use Rattle.std.proofs.lemmas.Bool.{eqb-true}
+use denote.Struct.Props.{props}
 use Rattle.programme.specs.declared.Kind.{Kind}
 use Rattle.programme.specs.Formula.{rounds, messages}
 use Rattle.schedule.specs.declared.Collective.{Collective}
 use Rattle.schedule.specs.declared.Collective.TheVariants.{Broadcast, Gather, Reduce, Scan, Exscan, Allreduce}
 use Rattle.schedule.specs.Collective.{kind_of, root_of}
+use Rattle.operation.specs.declared.Operation.{Ghosts as Operation}
+use Rattle.transport.specs.declared.Transport.{Ghosts as Transport}
 use Rattle.machine.specs.Operation.{Meaning, Lawful}
 use Rattle.machine.specs.Network.{Network, WellMade}
 use Rattle.machine.specs.Job.{Job, blocks, answer, packed, idle_ranks}
@@ -19,7 +22,8 @@ use Rattle.machine.proofs.History.{entry}
 use Rattle.machine.proofs.Records.{record_laws}
 use Rattle.engine.specs.declared.answer.Tally.{Tally}
 use Rattle.engine.specs.declared.state.Engine.{Engine}
-use Rattle.engine.specs.Abs.{plain, Stands, Sound, Steps}
+use Rattle.engine.specs.Abs.{plain, Stands, Steps}
+use Rattle.engine.proofs.Onward.{known}
 use Rattle.runner.specs.Sweeps.{sweeps, tells_finished, Runs}
 use Rattle.runner.specs.Complete.{Completed, Completes, Told, DrivenTo, Ending, opening}
 use Rattle.runner.proofs.Running.{runs_none, runs_then, runs_call}
@@ -90,56 +94,55 @@ module _ {E : Type 0} where
       right_completed name m net.ranks (recorded s all) number job words lent out tally right
       (right.only (kind_of job) (root_of job) words (inl (refl, begun ∙ ap (λ n. started n number) named)))
 
-module _ {O T E : Type 0} (op : O → Meaning E) (net : T → Network) (sound : T → Type 0) where
+module _ {O T E : Type 0} {op : Operation O E} {net : Transport T} where
   -- a job that is driven to its end is completed, if the engine was new
-  pub driven_completes : (one other : Engine O T E) (job : Collective) (words lent out : List ℕ) (budget : ℕ) (tally : Tally) (behind : (name number : ℕ) → List Call)
-      → DrivenTo op net sound one other job words lent budget (ended out tally.rounds tally.messages) behind
-      → Completes op net sound one job words lent out (Ok tally)
+  pub driven_completes : (one other : Engine O T E op net) (job : Collective) (words lent out : List ℕ) (budget : ℕ) (tally : Tally) (behind : (name number : ℕ) → List Call)
+      → DrivenTo one other job words lent budget (ended out tally.rounds tally.messages) behind
+      → Completes one job words lent out (Ok tally)
   driven_completes one other job words lent out budget tally behind d origin name m stands new =
       let good = subst Good new stands.good in
       let first : Call = start (kind_of job) (root_of job) words in
-      let swept : List Call = sweeps d.name d.number (net one.transport).ranks d.count in
+      let swept : List Call = sweeps d.name d.number (net.meaning one.transport).ranks d.count in
       completed name m origin good.lawful good.well job words lent out d.name d.number tally swept
       (subst (λ s. (step s first).0 ≡ started d.name d.number) new (d.begun origin stands))
       (subst (λ s. (step (after s (first ∷ swept)) (end d.name d.number lent)).0 ≡ ended out tally.rounds tally.messages) new (d.answered origin stands))
 
   -- the answer of one call
-  pub told_step : (one other : Engine O T E) (call : Call) (answer : Answer) → Steps op net sound one other call answer → Told op net sound one [] call answer
+  pub told_step : (one other : Engine O T E op net) (call : Call) (answer : Answer) → Steps one other call answer → Told one [] call answer
   told_step one other call answer steps origin h = ap (λ (x : Answer × Plain E). x.0) (sym (steps origin h).1)
 
   -- of the engine after some calls
-  told_after : (one other : Engine O T E) (calls : List Call) (call : Call) (answer : Answer)
-      → Runs op net sound one other calls
-      → Told op net sound other [] call answer
-      → Told op net sound one calls call answer
+  told_after : (one other : Engine O T E op net) (calls : List Call) (call : Call) (answer : Answer)
+      → Runs one other calls
+      → Told other [] call answer
+      → Told one calls call answer
   told_after one other calls call answer runs told origin h =
       let then = runs origin h in
       ap (λ s. (step s call).0) (sym then.1) ∙ told origin then.0
 
-  pub runs_one : (one other : Engine O T E) (call : Call) (answer : Answer) → Steps op net sound one other call answer → Runs op net sound one other (call ∷ [])
-  runs_one one other call answer steps = runs_call op net sound one one other [] call answer (runs_none op net sound one) steps
+  pub runs_one : (one other : Engine O T E op net) (call : Call) (answer : Answer) → Steps one other call answer → Runs one other (call ∷ [])
+  runs_one one other call answer steps = runs_call one one other [] call answer (runs_none one) steps
 
   -- calls leave the number of ranks
-  ranks_stay : (one other : Engine O T E) (calls : List Call) → Sound op net sound one → Runs op net sound one other calls → (net other.transport).ranks ≡ (net one.transport).ranks
-  ranks_stay one other calls h runs = (runs h.origin h.stands).0.good.sound.same_ranks ∙ sym h.stands.good.sound.same_ranks
+  ranks_stay : (one other : Engine O T E op net) (calls : List Call) → Runs one other calls → (net.meaning other.transport).ranks ≡ (net.meaning one.transport).ranks
+  ranks_stay one other calls runs = known one (hlevel props) (λ origin h. (runs origin h).0.good.sound.same_ranks ∙ sym h.good.sound.same_ranks)
 
   -- start, sweeps and end, put together
-  pub driven : (one two three four : Engine O T E) (job : Collective) (words lent : List ℕ) (budget name number count : ℕ) (finished : Bool) (answer : Answer) (behind : (name number : ℕ) → List Call)
-      → Sound op net sound one
-      → Steps op net sound one two (start (kind_of job) (root_of job) words) (started name number)
-      → Runs op net sound two three (sweeps name number (net two.transport).ranks count)
+  pub driven : (one two three four : Engine O T E op net) (job : Collective) (words lent : List ℕ) (budget name number count : ℕ) (finished : Bool) (answer : Answer) (behind : (name number : ℕ) → List Call)
+      → Steps one two (start (kind_of job) (root_of job) words) (started name number)
+      → Runs two three (sweeps name number (net.meaning two.transport).ranks count)
       → count ≤ budget
       → (count < budget → finished ≡ true)
-      → ((origin : Network) → Stands op net sound origin three → finished ≡ tells_finished (net two.transport).ranks (step (plain op net origin three) (look name number)).0)
-      → Ending op net sound three four name number lent answer (behind name number)
-      → DrivenTo op net sound one four job words lent budget answer behind
-  driven one two three four job words lent budget name number count finished answer behind h begins swept within stopped told ending =
+      → ((origin : Network) → Stands origin three → finished ≡ tells_finished (net.meaning two.transport).ranks (step (plain origin three) (look name number)).0)
+      → Ending three four name number lent answer (behind name number)
+      → DrivenTo one four job words lent budget answer behind
+  driven one two three four job words lent budget name number count finished answer behind begins swept within stopped told ending =
       let first : Call = start (kind_of job) (root_of job) words in
       let begun = runs_one one two first (started name number) begins in
-      let p : ℕ = (net one.transport).ranks in
-      let same = ranks_stay one two (first ∷ []) h begun in
-      let opened : Runs op net sound one three (opening job words name number p count)
-      = runs_then op net sound one two three (first ∷ []) (sweeps name number p count) begun (subst (λ q. Runs op net sound two three (sweeps name number q count)) same swept) in
+      let p : ℕ = (net.meaning one.transport).ranks in
+      let same = ranks_stay one two (first ∷ []) begun in
+      let opened : Runs one three (opening job words name number p count)
+      = runs_then one two three (first ∷ []) (sweeps name number p count) begun (subst (λ q. Runs two three (sweeps name number q count)) same swept) in
       record {
         name = name;
         number = number;
@@ -149,9 +152,9 @@ module _ {O T E : Type 0} (op : O → Meaning E) (net : T → Network) (sound : 
         stopped = λ fewer.
             told_after one three (opening job words name number p count) (look name number) (looked p) opened
             (λ origin there.
-            let s : Plain E = plain op net origin three in
+            let s : Plain E = plain origin three in
             let telling : finished ≡ tells_finished p (step s (look name number)).0 = told origin there ∙ ap (λ q. tells_finished q (step s (look name number)).0) same in
             look_finished p s (shown s name number) (sym telling ∙ stopped fewer));
         answered = told_after one three (opening job words name number p count) (end name number lent) answer opened ending.told;
-        runs = runs_then op net sound one three four (opening job words name number p count) (end name number lent ∷ behind name number) opened ending.runs;
+        runs = runs_then one three four (opening job words name number p count) (end name number lent ∷ behind name number) opened ending.runs;
       }

@@ -1,6 +1,7 @@
 -- The calls of sweeps, and an engine after calls.
 use Rattle.std.specs.Prelude.{◌≡◌, ℕ, zero, suc, Bool, false, cond, List, [], ◌∷◌, ◌++◌, ◌==◌}
-use Rattle.machine.specs.Operation.{Meaning}
+use Rattle.operation.specs.declared.Operation.{Ghosts as Operation}
+use Rattle.transport.specs.declared.Transport.{Ghosts as Transport}
 use Rattle.machine.specs.Network.{Network}
 use Rattle.machine.specs.Job.{listed}
 use Rattle.machine.specs.Call.{Call, Answer, turn, carry, started, sent, took, waits, through, carried, looked, ended, abandoned, refused}
@@ -45,7 +46,7 @@ tells_finished p abandoned = false
 tells_finished p (refused f) = false
 
 -- the calls lead from one engine to the next as the plain machine says, whatever network the engine was made with
-abbrev pub Runs : {O T E : Type 0} → (O → Meaning E) → (T → Network) → (T → Type 0) → (before after : Engine O T E) → List Call → Type 0
-Runs op net sound one other calls =
-    (origin : Network) → Stands op net sound origin one
-    → Stands op net sound origin other × (plain op net origin other ≡ after (plain op net origin one) calls)
+abbrev pub Runs : {O T E : Type 0} {op : Operation O E} {net : Transport T} → (before after : Engine O T E op net) → List Call → Type 0
+Runs one other calls =
+    (origin : Network) → Stands origin one
+    → Stands origin other × (plain origin other ≡ after (plain origin one) calls)

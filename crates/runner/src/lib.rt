@@ -1,11 +1,11 @@
 // Drives one job by sweeps, and runs one from its start to its end.
 #![tactic(auto)]
 
-ghost use Rattle.std.specs.Prelude.{◌≡◌, ◌<◌, ◌≤◌, true};
+ghost use Rattle.std.specs.Prelude.{◌≡◌, ◌<◌, ◌≤◌, true, ◌==◌};
 ghost use Rattle.machine.specs.Network.{Network};
 ghost use Rattle.machine.specs.Call.{look};
 ghost use Rattle.machine.specs.Plain.{step};
-ghost use Rattle.engine.specs.Abs.{plain, Stands, Sound};
+ghost use Rattle.engine.specs.Abs.{plain, Stands};
 ghost use Rattle.runner.specs.Sweeps.{turns, carries_from, carries, sweep, sweeps, tells_finished, Runs};
 ghost use Rattle.runner.specs.Complete.{Completes, Unwritten, Finishes, Does};
 ghost use Rattle.runner.specs.declared.Incomplete.TheVariants.{Start as NotStarted, End as NotEnded};
@@ -14,6 +14,7 @@ use engine::answer::{EndFault, StartFault, Tally};
 use engine::state::Engine;
 use engine::token::Token;
 use operation::Operation;
+use ranks::Pair;
 use schedule::Collective;
 use transport::Transport;
 
@@ -51,9 +52,7 @@ impl From<EndFault> for Incomplete {
 
 // A turn of each rank, upwards.
 fn turn_all<O: Operation, T: Transport>(engine: &mut Engine<O, T>, token: &Token, ranks: usize)
-    requires { Sound O.Operation.meaning T.Transport.meaning T.Transport.sound engine.old }
-    ensures sound { Sound O.Operation.meaning T.Transport.meaning T.Transport.sound engine.new }
-    ensures did { Runs O.Operation.meaning T.Transport.meaning T.Transport.sound engine.old engine.new (turns token.now.name token.now.number ranks) }
+    ensures { Runs engine.old engine.new (turns token.now.name token.now.number ranks) }
 {
     for rank in 0..ranks {
         let _ = engine.turn(token, rank);
@@ -62,22 +61,18 @@ fn turn_all<O: Operation, T: Transport>(engine: &mut Engine<O, T>, token: &Token
 
 // A carry from one rank to each other.
 fn carry_from<O: Operation, T: Transport>(engine: &mut Engine<O, T>, from: usize, ranks: usize)
-    requires { Sound O.Operation.meaning T.Transport.meaning T.Transport.sound engine.old }
-    ensures sound { Sound O.Operation.meaning T.Transport.meaning T.Transport.sound engine.new }
-    ensures did { Runs O.Operation.meaning T.Transport.meaning T.Transport.sound engine.old engine.new (carries_from from ranks) }
+    ensures { Runs engine.old engine.new (carries_from from ranks) }
 {
     for to in 0..ranks {
         if to != from {
-            let _ = engine.carry(from, to);
+            let _ = engine.carry(Pair { from, to });
         }
     }
 }
 
 // A carry for each ordered pair.
 fn carry_all<O: Operation, T: Transport>(engine: &mut Engine<O, T>, ranks: usize)
-    requires { Sound O.Operation.meaning T.Transport.meaning T.Transport.sound engine.old }
-    ensures sound { Sound O.Operation.meaning T.Transport.meaning T.Transport.sound engine.new }
-    ensures did { Runs O.Operation.meaning T.Transport.meaning T.Transport.sound engine.old engine.new (carries ranks ranks) }
+    ensures { Runs engine.old engine.new (carries ranks ranks) }
 {
     for from in 0..ranks {
         carry_from(engine, from, ranks);
@@ -86,12 +81,17 @@ fn carry_all<O: Operation, T: Transport>(engine: &mut Engine<O, T>, ranks: usize
 
 // One sweep: a turn of each rank, then a carry for each ordered pair.
 fn sweep_once<O: Operation, T: Transport>(engine: &mut Engine<O, T>, token: &Token, ranks: usize)
-    requires { Sound O.Operation.meaning T.Transport.meaning T.Transport.sound engine.old }
-    ensures sound { Sound O.Operation.meaning T.Transport.meaning T.Transport.sound engine.new }
-    ensures did { Runs O.Operation.meaning T.Transport.meaning T.Transport.sound engine.old engine.new (sweep token.now.name token.now.number ranks) }
+    ensures { Runs engine.old engine.new (sweep token.now.name token.now.number ranks) }
 {
     turn_all(engine, token, ranks);
     carry_all(engine, ranks);
+}
+
+// Whether so many idle ranks are all of them.
+fn are_all(idle: usize, ranks: usize) -> bool
+    ensures { result ≡ (idle == ranks) }
+{
+    idle == ranks
 }
 
 // Whether all ranks have no action left.
@@ -100,11 +100,10 @@ fn is_finished<O: Operation, T: Transport>(
     token: &Token,
     ranks: usize,
 ) -> bool
-    requires { Sound O.Operation.meaning T.Transport.meaning T.Transport.sound engine.now }
-    ensures { (origin : Network) → Stands O.Operation.meaning T.Transport.meaning T.Transport.sound origin engine.now → result ≡ tells_finished ranks (step (plain O.Operation.meaning T.Transport.meaning origin engine.now) (look token.now.name token.now.number)).0 }
+    ensures { (origin : Network) → Stands origin engine.now → result ≡ tells_finished ranks (step (plain origin engine.now) (look token.now.name token.now.number)).0 }
 {
     match engine.look(token) {
-        Ok(idle) => idle == ranks,
+        Ok(idle) => are_all(idle, ranks),
         Err(_) => false,
     }
 }
@@ -115,12 +114,10 @@ pub fn run<O: Operation, T: Transport>(
     token: &Token,
     budget: usize,
 ) -> Driven
-    requires { Sound O.Operation.meaning T.Transport.meaning T.Transport.sound engine.old }
-    ensures sound { Sound O.Operation.meaning T.Transport.meaning T.Transport.sound engine.new }
-    ensures did { Runs O.Operation.meaning T.Transport.meaning T.Transport.sound engine.old engine.new (sweeps token.now.name token.now.number (T.Transport.meaning engine.old.transport).ranks result.sweeps) }
+    ensures did { Runs engine.old engine.new (sweeps token.now.name token.now.number (T.meaning engine.old.transport).ranks result.sweeps) }
     ensures within { result.sweeps ≤ budget }
     ensures stopped { result.sweeps < budget → result.finished ≡ true }
-    ensures told { (origin : Network) → Stands O.Operation.meaning T.Transport.meaning T.Transport.sound origin engine.new → result.finished ≡ tells_finished (T.Transport.meaning engine.old.transport).ranks (step (plain O.Operation.meaning T.Transport.meaning origin engine.new) (look token.now.name token.now.number)).0 }
+    ensures told { (origin : Network) → Stands origin engine.new → result.finished ≡ tells_finished (T.meaning engine.old.transport).ranks (step (plain origin engine.new) (look token.now.name token.now.number)).0 }
 {
     let ranks = engine.ranks();
     for sweeps in 0..budget {
@@ -144,9 +141,7 @@ fn finish<O: Operation, T: Transport>(
     token: Token,
     out: &mut [u32],
 ) -> Result<Tally, EndFault>
-    requires { Sound O.Operation.meaning T.Transport.meaning T.Transport.sound engine.old }
-    ensures sound { Sound O.Operation.meaning T.Transport.meaning T.Transport.sound engine.new }
-    ensures did { Finishes O.Operation.meaning T.Transport.meaning T.Transport.sound engine.old engine.new token.name token.number out.old out.new result }
+    ensures did { Finishes engine.old engine.new token.name token.number out.old out.new result }
     ensures refused { Unwritten result out.old out.new }
 {
     match engine.end(token, out) {
@@ -167,11 +162,9 @@ pub fn complete<O: Operation, T: Transport>(
     budget: usize,
     out: &mut [u32],
 ) -> Result<Tally, Incomplete>
-    requires { Sound O.Operation.meaning T.Transport.meaning T.Transport.sound engine.old }
-    ensures sound { Sound O.Operation.meaning T.Transport.meaning T.Transport.sound engine.new }
-    ensures answered { Completes O.Operation.meaning T.Transport.meaning T.Transport.sound engine.old job inputs.now out.old out.new result }
+    ensures answered { Completes engine.old job inputs.now out.old out.new result }
     ensures refused { Unwritten result out.old out.new }
-    ensures did { Does O.Operation.meaning T.Transport.meaning T.Transport.sound engine.old engine.new job inputs.now out.old out.new budget result }
+    ensures did { Does engine.old engine.new job inputs.now out.old out.new budget result }
 {
     let token = engine.start(job, inputs)?;
     let _ = run(engine, &token, budget);

@@ -1,24 +1,13 @@
-use Rattle.std.proofs.Common.{◌≡◌, ◌+◌, ◌*◌, ◌<◌, ◌≤◌, [], ◌∷◌, ◌++◌, drop, sym, ap, ◌∙◌, subst, mul-le-mul_right, add-one, arith, rules}
+use Rattle.std.proofs.Common.{◌≡◌, ◌+◌, ◌*◌, ◌<◌, ◌≤◌, [], ◌∷◌, ◌++◌, drop, sym, ap, ◌∙◌, subst, mul-le-mul_right, add-one, arith}
 use Rattle.machine.specs.Job.{listed}
 use Rattle.machine.specs.Sound.{Proper}
 use Rattle.machine.proofs.Finish.{length-listed}
 use Rattle.engine_parts.specs.Outputs.{packed, block_over}
-use Rattle.engine_parts.proofs.Blocks.{packed_none, packed_push, packed_all}
+use Rattle.engine_parts.proofs.Blocks.{packed_push, packed_all}
 use Rattle.jobs.specs.declared.job.RankState.{RankState}
 use Rattle.jobs.specs.Tables.{result_at, result_count}
 use Rattle.engine.proofs.Results.{all_listed, listed_at}
-use Rattle.engine.proofs.Ending.{count_few}
 use Rattle.engine.proofs.write_results.Goals as goal
-
-pub loop-index-init : goal.loop-index-init
-loop-index-init g c = λ d.
-    let o = c.args.operation.now in
-    packed_none (g.O.Operation.meaning o) (g.met.O.Operation.packing o c.requires.narrow) c.args.words.now
-
-pub result-requires : goal.result-requires
-result-requires g c =
-    let j = c.args.job.now in
-    (search rules, omega (arith, c.loop-index-test.true, c.result_count-index-end.ensures, count_few j.schedule.collective j.schedule.ranks j.schedule.allowed))
 
 pub write_block-requires : goal.write_block-requires
 write_block-requires g c =

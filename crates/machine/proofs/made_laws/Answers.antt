@@ -10,4 +10,4 @@ returns g c =
     let net = c.args.transport.now in
     record_laws c.args.name (g.O.Operation.meaning op) (t.meaning net)
     (record { wide = laws.wide op; monoid = laws.monoid op; packing = laws.packing op })
-    (well_made t.most (t.meaning net) (t.shaped net c.requires))
+    (well_made t.most (t.meaning net) (g.met.T.Transport.shaped net))

@@ -9,25 +9,18 @@ use Rattle.runner.proofs.finish.Goals as goal
 
 pub returns-in-Ok : goal.returns-in-Ok
 returns-in-Ok g c =
-    let op = g.O.Operation.meaning in
-    let net = g.T.Transport.meaning in
-    let ok = g.T.Transport.sound in
     let e = c.args.engine.now in
     let last = c.end.new.self in
     let call = end c.args.token.name c.args.token.number c.args.out.now in
     let answer = ended c.end.new.words c.in-Ok.tally.rounds c.in-Ok.tally.messages in
     let step = c.in-Ok.ensures.step in
     record {
-      sound = c.end.ensures.sound;
-      did = record { told = told_step op net ok e last call answer step; runs = runs_one op net ok e last call answer step };
+      did = record { told = told_step e last call answer step; runs = runs_one e last call answer step };
       refused = tt;
     }
 
 pub returns-in-Err : goal.returns-in-Err
 returns-in-Err g c =
-    let op = g.O.Operation.meaning in
-    let net = g.T.Transport.meaning in
-    let ok = g.T.Transport.sound in
     let e = c.args.engine.now in
     let token = c.args.token in
     let mid = c.end.new.self in
@@ -36,13 +29,12 @@ returns-in-Err g c =
     let answer = refused (end_refusal c.in-Err.fault) in
     let step = c.in-Err.ensures.step in
     let given = abandon_answer c.abandon.result in
-    let left = subst (λ (t : Token). Steps op net ok mid last (abandon t.name t.number) given) c.in-Err.ensures.refused.0 c.abandon.ensures.step in
+    let left = subst (λ (t : Token). Steps mid last (abandon t.name t.number) given) c.in-Err.ensures.refused.0 c.abandon.ensures in
     let gone = abandon token.name token.number in
     record {
-      sound = c.abandon.ensures.sound;
       did = record {
-        told = told_step op net ok e mid call answer step;
-        runs = runs_then op net ok e mid last (call ∷ []) (gone ∷ []) (runs_one op net ok e mid call answer step) (runs_one op net ok mid last gone given left);
+        told = told_step e mid call answer step;
+        runs = runs_then e mid last (call ∷ []) (gone ∷ []) (runs_one e mid call answer step) (runs_one mid last gone given left);
       };
       refused = c.in-Err.ensures.refused.1;
     }

@@ -3,10 +3,9 @@ use Rattle.engine_parts.specs.Clearing.{delivered}
 use Rattle.engine_parts.proofs.clearing.carry_all.Given as goal
 
 -- what is left to do comes to the same
-abbrev pub invariant-loop : goal.invariant-loop
-invariant-loop g l =
-    g.T.Transport.sound l.transport
-    × (delivered l.from l.to (g.T.Transport.meaning l.transport) ≡ delivered l.from l.to (g.T.Transport.meaning l.initial.transport))
+abbrev pub invariant-loop-pair : goal.invariant-loop-pair
+invariant-loop-pair g l =
+    delivered l.pair.from l.pair.to (g.T.Transport.meaning l.transport) ≡ delivered l.pair.from l.pair.to (g.T.Transport.meaning l.initial.transport)
 
-abbrev pub decreases-loop : goal.decreases-loop
-decreases-loop g l = length ((g.T.Transport.meaning l.transport).under l.from l.to)
+abbrev pub decreases-loop-pair : goal.decreases-loop-pair
+decreases-loop-pair g l = length ((g.T.Transport.meaning l.transport).under l.pair.from l.pair.to)

@@ -4,5 +4,4 @@ use Rattle.engine_parts.proofs.clearing.clear_job.Given as goal
 
 abbrev pub invariant-loop-from : goal.invariant-loop-from
 invariant-loop-from g l =
-    g.T.Transport.sound l.transport
-    × (g.T.Transport.meaning l.transport ≡ cleared l.number (rows_below l.from l.ranks) (g.T.Transport.meaning l.initial.transport))
+    g.T.Transport.meaning l.transport ≡ cleared l.number (rows_below l.from l.ranks) (g.T.Transport.meaning l.initial.transport)

@@ -5,14 +5,12 @@ use Rattle.engine_parts.proofs.clearing.clear_row.Goals as goal
 
 pub loop-to-init : goal.loop-to-init
 loop-to-init g c =
-    (c.requires.sound, sym (cleared_none c.args.number (g.T.Transport.meaning c.args.transport.now) (row_below c.args.from 0) (row_none c.args.from)))
+    sym (cleared_none c.args.number (g.T.Transport.meaning c.args.transport.now) (row_below c.args.from 0) (row_none c.args.from))
 
 pub loop-to-preserved : goal.loop-to-preserved
 loop-to-preserved g c =
     let from = c.args.from in
-    let to = c.loop-to.to in (
-      c.clear_pair.ensures.kept,
-      c.clear_pair.ensures.after
-          ∙ ap (cleared c.args.number (one_pair from to)) c.loop-to.invariant.1
-          ∙ cleared_join c.args.number (g.T.Transport.meaning c.args.transport.now) (row_below from to) (one_pair from to) (row_below from (to + 1)) (row_next from to) (row_apart from to),
-    )
+    let to = c.loop-to.to in
+    c.clear_pair.ensures
+    ∙ ap (cleared c.args.number (one_pair from to)) c.loop-to.invariant
+    ∙ cleared_join c.args.number (g.T.Transport.meaning c.args.transport.now) (row_below from to) (one_pair from to) (row_below from (to + 1)) (row_next from to) (row_apart from to)

@@ -4,5 +4,4 @@ use Rattle.engine_parts.proofs.clearing.take_job.Given as goal
 
 abbrev pub invariant-loop-label : goal.invariant-loop-label
 invariant-loop-label g l =
-    g.T.Transport.sound l.transport
-    × (g.T.Transport.meaning l.transport ≡ purged (labelled l.number l.label) l.from l.to (g.T.Transport.meaning l.initial.transport))
+    g.T.Transport.meaning l.transport ≡ purged (labelled l.number l.label) l.pair.from l.pair.to (g.T.Transport.meaning l.initial.transport)

@@ -1,163 +1,110 @@
-use Rattle.std.proofs.Common.{◌≡◌, ◌+◌, [], ◌∷◌, ◌++◌, take, set, sym, refl, ap, ◌∙◌, subst, rules}
-use Rattle.programme.specs.declared.Merge.TheVariants.{Keep}
-use Rattle.programme.specs.declared.Action.TheVariants.{Take}
-use Rattle.machine.specs.Plain.{turn, took, waits}
+use Rattle.std.proofs.Common.{length, sym, ap, ◌∙◌, subst, rules}
+use denote.Struct.Props.{props}
+use Rattle.transport.specs.Network.{oldest}
+use Rattle.machine.specs.Network.{with_taken}
+use Rattle.engine_parts.specs.Mail.{Legible, mail_in}
 use Rattle.jobs.specs.Tables.{pending_jobs, with_received}
 use Rattle.jobs.specs.Updates.{update}
-use Rattle.engine.specs.Abs.{AmongRanks, state_taken, with_jobs}
-use Rattle.engine.proofs.Onward.{onward}
-use Rattle.engine.proofs.Situation.{within, rank_low, clocks, number_low, narrow, done_few, take_label, pair, legible, waits_step, room_kept, took_step, ranks_update, received_ranks}
-use Rattle.machine.specs.Network.{with_taken}
-use Rattle.transport.specs.Network.{oldest}
-use Rattle.engine_parts.specs.Mail.{Legible, mail_in}
+use Rattle.engine.proofs.Onward.{known, stays_sound}
+use Rattle.engine.proofs.Shown.{place_within}
+use Rattle.engine.proofs.Situation.{ready, rank_low, done_few, take_label, pair, legible, waits_on, room_kept, takes}
 use Rattle.engine.proofs.state.Engine.take.Goals as goal
 
 pub job-requires : goal.job-requires
-job-requires g c =
-    let op = g.O.Operation.meaning in
-    let net = g.T.Transport.meaning in
-    let ok = g.T.Transport.sound in
-    let e = c.args.self.now in
-    let t = c.args.token.now in
-    let k = c.args.place in
-    let r = c.args.rank in
-    let due = c.requires.due in
-    let o = c.requires.sound.origin in
-    let h = c.requires.sound.stands in
-    let a = Take c.args.from c.args.label c.args.merge in
-    (search rules, (search rules, within op net ok e t k r a due o h))
+job-requires g c = (search rules, (search rules, place_within c.args.self.now c.args.token.now c.args.seat.place c.requires.shown_at))
 
 pub state-state-requires : goal.state-state-requires
-state-state-requires g c =
-    let op = g.O.Operation.meaning in
-    let net = g.T.Transport.meaning in
-    let ok = g.T.Transport.sound in
-    let e = c.args.self.now in
-    let t = c.args.token.now in
-    let k = c.args.place in
-    let r = c.args.rank in
-    let due = c.requires.due in
-    let o = c.requires.sound.origin in
-    let h = c.requires.sound.stands in
-    let a = Take c.args.from c.args.label c.args.merge in
-    (search rules, rank_low op net ok e t k r a due o h)
+state-state-requires g c = (search rules, known c.args.self.now (hlevel props) (rank_low c.args.self.now c.args.seat.rank c.requires.below))
 
 pub job_tag-tag-requires : goal.job_tag-tag-requires
 job_tag-tag-requires g c =
-    let op = g.O.Operation.meaning in
-    let net = g.T.Transport.meaning in
-    let ok = g.T.Transport.sound in
-    let e = c.args.self.now in
-    let t = c.args.token.now in
-    let k = c.args.place in
-    let r = c.args.rank in
-    let due = c.requires.due in
-    let o = c.requires.sound.origin in
-    let h = c.requires.sound.stands in
-    let a = Take c.args.from c.args.label c.args.merge in
-    let j = c.job.result.now in
-    let j_is = c.job.ensures j in
-    let st = c.state-state.result in
-    let st_is = c.state-state.ensures st in
-    (number_low op net ok e t k r a due o h j j_is st st_is, take_label op net ok e t k r c.args.from c.args.label c.args.merge due o h j j_is st st_is)
+    let ready = ready c.args.self.now c.args.token.now c.args.seat.place c.args.seat.rank _ c.requires c.job.result.now c.job.ensures c.state-state.result c.state-state.ensures in
+    (ready.number_low, take_label c.args.self.now c.args.token.now c.args.seat.place c.args.seat.rank c.args.from c.args.label c.args.merge c.requires c.job.result.now c.job.ensures c.state-state.result c.state-state.ensures)
 
 pub take_value-requires : goal.take_value-requires
 take_value-requires g c =
-    let op = g.O.Operation.meaning in
-    let net = g.T.Transport.meaning in
-    let ok = g.T.Transport.sound in
     let e = c.args.self.now in
     let t = c.args.token.now in
-    let k = c.args.place in
-    let r = c.args.rank in
-    let due = c.requires.due in
-    let o = c.requires.sound.origin in
-    let h = c.requires.sound.stands in
-    let a = Take c.args.from c.args.label c.args.merge in
+    let k = c.args.seat.place in
+    let r = c.args.seat.rank in
     let j = c.job.result.now in
-    let j_is = c.job.ensures j in
     let st = c.state-state.result in
-    let st_is = c.state-state.ensures st in
-    record { narrow = narrow op net ok e t k r a due o h j j_is st st_is; sound = h.transport_sound; pair = pair op net ok e t k r c.args.from c.args.label c.args.merge due o h j j_is st st_is; legible = subst (λ i. Legible (op e.operation) (oldest i ((net e.transport).arrived c.args.from r))) (sym c.job_tag-tag.ensures) (legible op net ok e t k r c.args.from c.args.label c.args.merge due o h j j_is st st_is) }
+    record {
+      narrow = (ready e t k r _ c.requires j c.job.ensures st c.state-state.ensures).narrow;
+      among = pair e t k r c.args.from c.args.label c.args.merge c.requires j c.job.ensures st c.state-state.ensures;
+      legible = subst (λ i. Legible (g.O.Operation.meaning e.operation) (oldest i ((g.T.Transport.meaning e.transport).arrived c.args.from r))) (sym c.job_tag-tag.ensures)
+          (legible e t k r c.args.from c.args.label c.args.merge c.requires j c.job.ensures st c.state-state.ensures);
+    }
+
+pub invariant_of-self : goal.invariant_of-self
+invariant_of-self g c =
+    let e = c.args.self.now in
+    let r = c.args.seat.rank in
+    let none = ap (λ i. mail_in (g.O.Operation.meaning e.operation) (oldest i ((g.T.Transport.meaning e.transport).arrived c.args.from r))) (sym c.job_tag-tag.ensures) ∙ sym c.take_value.ensures.answer ∙ c.in_default.is in
+    let steps = waits_on e c.args.token.now c.args.seat.place r c.args.from c.args.label c.args.merge c.requires c.job.result.now c.job.ensures c.state-state.result c.state-state.ensures none (g.T.Transport.meaning c.take_value.new.transport) (c.take_value.ensures.none c.in_default.is) in
+    record { sound = stays_sound e (λ o h. (steps o h).0) }
 
 pub returns-in_default : goal.returns-in_default
 returns-in_default g c =
-    let op = g.O.Operation.meaning in
-    let net = g.T.Transport.meaning in
-    let ok = g.T.Transport.sound in
     let e = c.args.self.now in
-    let t = c.args.token.now in
-    let k = c.args.place in
-    let r = c.args.rank in
-    let due = c.requires.due in
-    let j = c.job.result.now in
-    let j_is = c.job.ensures j in
-    let st = c.state-state.result in
-    let st_is = c.state-state.ensures st in
-    onward op net ok e _ (turn t.name t.number r) waits c.take_value.ensures.kept refl (λ p s. s)
-    (λ o h.
-    ap (λ n. (waits, with_jobs e.name (op e.operation) o n e.started (pending_jobs e.jobs))) (c.take_value.ensures.none c.in_default.is)
-    ∙ waits_step op net ok e t k r c.args.from c.args.label c.args.merge due o h j j_is st st_is (ap (λ i. mail_in (op e.operation) (oldest i ((net e.transport).arrived c.args.from r))) (sym c.job_tag-tag.ensures) ∙ sym c.take_value.ensures.answer ∙ c.in_default.is))
+    let r = c.args.seat.rank in
+    let none = ap (λ i. mail_in (g.O.Operation.meaning e.operation) (oldest i ((g.T.Transport.meaning e.transport).arrived c.args.from r))) (sym c.job_tag-tag.ensures) ∙ sym c.take_value.ensures.answer ∙ c.in_default.is in
+    let steps = waits_on e c.args.token.now c.args.seat.place r c.args.from c.args.label c.args.merge c.requires c.job.result.now c.job.ensures c.state-state.result c.state-state.ensures none (g.T.Transport.meaning c.take_value.new.transport) (c.take_value.ensures.none c.in_default.is) in
+    steps
 
 pub merged-after-requires : goal.merged-after-requires
 merged-after-requires g c =
-    let op = g.O.Operation.meaning in
-    let net = g.T.Transport.meaning in
-    let ok = g.T.Transport.sound in
     let e = c.args.self.now in
     let t = c.args.token.now in
-    let k = c.args.place in
-    let r = c.args.rank in
-    let due = c.requires.due in
-    let o = c.requires.sound.origin in
-    let h = c.requires.sound.stands in
-    let a = Take c.args.from c.args.label c.args.merge in
+    let k = c.args.seat.place in
+    let r = c.args.seat.rank in
     let j = c.job.result.now in
-    let j_is = c.job.ensures j in
     let st = c.state-state.result in
-    let st_is = c.state-state.ensures st in
-    (done_few op net ok e t k r a due o h j j_is st st_is, (clocks op net ok e t k r a due o h j j_is st st_is).0)
+    (done_few e t k r _ c.requires j c.job.ensures st c.state-state.ensures, (ready e t k r _ c.requires j c.job.ensures st c.state-state.ensures).arrival_low)
 
 pub receive-requires : goal.receive-requires
 receive-requires g c =
-    let op = g.O.Operation.meaning in
-    let net = g.T.Transport.meaning in
-    let ok = g.T.Transport.sound in
     let e = c.args.self.now in
     let t = c.args.token.now in
-    let k = c.args.place in
-    let r = c.args.rank in
-    let due = c.requires.due in
-    let o = c.requires.sound.origin in
-    let h = c.requires.sound.stands in
-    let a = Take c.args.from c.args.label c.args.merge in
-    let j = c.job.result.now in
-    let j_is = c.job.ensures j in
-    let st = c.state-state.result in
-    let st_is = c.state-state.ensures st in
-    (search rules, (within op net ok e t k r a due o h, rank_low op net ok e t k r a due o h, room_kept op net ok e t k r c.args.from c.args.label c.args.merge due o h j j_is st st_is c.in-Some.mail))
+    let k = c.args.seat.place in
+    let r = c.args.seat.rank in
+    let kept = room_kept e t k r c.args.from c.args.label c.args.merge c.requires c.job.result.now c.job.ensures c.state-state.result c.state-state.ensures c.in-Some.mail in
+    (search rules, (place_within e t k c.requires.shown_at, known e (hlevel props) (rank_low e r c.requires.below), kept))
 
-pub returns : goal.returns
-returns g c =
-    let op = g.O.Operation.meaning in
-    let net = g.T.Transport.meaning in
-    let ok = g.T.Transport.sound in
+pub invariant_of-self-2 : goal.invariant_of-self-2
+invariant_of-self-2 g c =
     let e = c.args.self.now in
-    let t = c.args.token.now in
-    let k = c.args.place in
-    let r = c.args.rank in
-    let due = c.requires.due in
+    let op = g.O.Operation.meaning e.operation in
+    let net = g.T.Transport.meaning e.transport in
+    let k = c.args.seat.place in
+    let r = c.args.seat.rank in
     let j = c.job.result.now in
-    let j_is = c.job.ensures j in
     let st = c.state-state.result in
-    let st_is = c.state-state.ensures st in
     let merge = c.args.merge in
     let mail = c.in-Some.mail in
     let v = mail.value in
-    let new = state_taken (op e.operation).join merge mail st in
+    let found = c.in-Some.ensures.answer ∙ ap (λ i. mail_in op (oldest i (net.arrived c.args.from r))) c.job_tag-tag.ensures in
+    let network = c.take_value.ensures.after ∙ ap (λ i. with_taken c.args.from r i net) c.job_tag-tag.ensures in
     let jobs = c.receive.ensures.changed ∙ ap (λ s. update k (with_received r s merge st.done v) (pending_jobs e.jobs)) c.merged-after.ensures in
-    let front : merge ≡ Keep → take (st.done + 1) (set j.kept st.done v) ≡ take st.done j.kept ++ (v ∷ [])
-    = λ keep. subst (λ i. take (st.done + 1) (set i.kept st.done v) ≡ take st.done i.kept ++ (v ∷ [])) (sym j_is) (c.receive.ensures.front keep j) in
-    onward op net ok e _ (turn t.name t.number r) took c.take_value.ensures.kept refl
-    (λ p s. subst (AmongRanks p) (sym jobs) (ranks_update p k (with_received r new merge st.done v) (received_ranks r new merge st.done v) (pending_jobs e.jobs) s))
-    (λ o h. took_step op net ok e t k r c.args.from c.args.label c.args.merge due o h j j_is st st_is mail (c.in-Some.ensures.answer ∙ ap (λ i. mail_in (op e.operation) (oldest i ((net e.transport).arrived c.args.from r))) c.job_tag-tag.ensures) (net c.take_value.new.transport) (c.take_value.ensures.after ∙ ap (λ i. with_taken c.args.from r i (net e.transport)) c.job_tag-tag.ensures) (pending_jobs c.receive.new.self) jobs front)
+    let long = ap (λ i. length i.kept) (c.job.ensures j) ∙ c.receive.ensures.room j in
+    let steps = takes e c.args.token.now k r c.args.from c.args.label merge c.requires j c.job.ensures st c.state-state.ensures mail found (g.T.Transport.meaning c.take_value.new.transport) network (pending_jobs c.receive.new.self) jobs long in
+    record { sound = stays_sound e (λ o h. (steps o h).0) }
+
+pub returns : goal.returns
+returns g c =
+    let e = c.args.self.now in
+    let op = g.O.Operation.meaning e.operation in
+    let net = g.T.Transport.meaning e.transport in
+    let k = c.args.seat.place in
+    let r = c.args.seat.rank in
+    let j = c.job.result.now in
+    let st = c.state-state.result in
+    let merge = c.args.merge in
+    let mail = c.in-Some.mail in
+    let v = mail.value in
+    let found = c.in-Some.ensures.answer ∙ ap (λ i. mail_in op (oldest i (net.arrived c.args.from r))) c.job_tag-tag.ensures in
+    let network = c.take_value.ensures.after ∙ ap (λ i. with_taken c.args.from r i net) c.job_tag-tag.ensures in
+    let jobs = c.receive.ensures.changed ∙ ap (λ s. update k (with_received r s merge st.done v) (pending_jobs e.jobs)) c.merged-after.ensures in
+    let long = ap (λ i. length i.kept) (c.job.ensures j) ∙ c.receive.ensures.room j in
+    let steps = takes e c.args.token.now k r c.args.from c.args.label merge c.requires j c.job.ensures st c.state-state.ensures mail found (g.T.Transport.meaning c.take_value.new.transport) network (pending_jobs c.receive.new.self) jobs long in
+    steps

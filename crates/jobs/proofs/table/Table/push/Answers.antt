@@ -6,8 +6,8 @@ use Rattle.jobs.proofs.table.Table.push.Goals as goal
 pub listed : goal.listed
 listed g c = let t = c.args.self.now in omega (arith, c.requires, pending_size t, t.sized)
 
-pub bounds-self-at : goal.bounds-self-at
-bounds-self-at g c = let t = c.args.self.now in omega (arith, c.requires, pending_size t)
+pub bounds-self-self : goal.bounds-self-self
+bounds-self-self g c = let t = c.args.self.now in omega (arith, c.requires, pending_size t)
 
 pub invariant_of-self : goal.invariant_of-self
 invariant_of-self g c = let t = c.args.self.now in record { sized = length-set t.jobs t.pending c.args.job ∙ t.sized; few = omega (arith, c.requires, pending_size t) }

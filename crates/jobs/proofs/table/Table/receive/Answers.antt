@@ -1,5 +1,6 @@
-use Rattle.std.proofs.Common.{◌≡◌, ◌+◌, ◌<◌, [], ◌∷◌, ◌++◌, take, set, sym, ap, ◌∙◌, subst, arith, get_or-take}
+use Rattle.std.proofs.Common.{◌≡◌, ◌<◌, length, take, set, sym, ap, ◌∙◌, subst, arith, get_or-take}
 use Rattle.std.proofs.lemmas.List.{get_or_default}
+use Rattle.ranks.specs.Ranks.{most_ranks}
 use Rattle.jobs.specs.Tables.{with_received}
 use Rattle.jobs.proofs.Lists.{set-update, take-update}
 use Rattle.jobs.proofs.Sizes.{pending_size}
@@ -17,15 +18,13 @@ bounds-self-i g c = let t = c.args.self.now in omega (arith, c.requires.0, pendi
 pub returns : goal.returns
 returns g c =
     let t = c.args.self.now in
-    let at = c.args.at in
-    let v = c.args.value in
-    let f = with_received c.args.rank c.args.state c.args.merge at v in
+    let f = with_received c.args.rank c.args.state c.args.merge c.args.at c.args.value in
     let size = pending_size t in
     let lt : c.args.i < t.pending = omega (arith, c.requires.0) in
     record {
       changed = ap (take t.pending) (ap (set t.jobs c.args.i) c.receive.ensures.changed ∙ set-update t.jobs c.args.i f c.index-self-i.result) ∙ take-update t.jobs t.pending c.args.i f;
-      front = λ e d.
-          subst (λ j. take (at + 1) (set j.kept at v) ≡ take at j.kept ++ (v ∷ []))
+      room = λ d.
+          subst (λ j. length j.kept ≡ most_ranks)
           (get_or_default t.jobs c.args.i _ d (omega (arith, t.sized, t.few)) ∙ sym (get_or-take t.pending t.jobs c.args.i d lt))
-          (c.receive.ensures.front e);
+          c.receive.ensures.room;
     }
