@@ -2,6 +2,8 @@
 use Rattle.std.proofs.Common.{◌≡◌, ℕ, List, Ok, Err, Result, subst}
 use Rattle.schedule.specs.declared.Collective.{Collective}
 use Rattle.schedule.specs.Collective.{kind_of, root_of}
+use Rattle.operation.specs.declared.Operation.{Ghosts as Operation}
+use Rattle.transport.specs.declared.Transport.{Ghosts as Transport}
 use Rattle.machine.specs.Operation.{Meaning}
 use Rattle.machine.specs.Network.{Network}
 use Rattle.machine.specs.Call.{Call, Answer, start, look, end, started, looked, refused}
@@ -17,19 +19,19 @@ use Rattle.runner.specs.Complete.{Completes, Unwritten, Does, DrivenTo, opening}
 use Rattle.runner.proofs.Completing.{told_step}
 use Rattle.bridge.specs.Outcome.{engine_name, Driven, ComesTo}
 
-module _ {O T E : Type 0} (op : O → Meaning E) (net : T → Network) (sound : T → Type 0) (one other : Engine O T E) (job : Collective) (words lent : List ℕ) (budget : ℕ)
-    (origin : Network) (m : Meaning E) (stands : Stands op net sound origin one) (new : plain op net origin one ≡ made engine_name m origin) where
+module _ {O T E : Type 0} {op : Operation O E} {net : Transport T} (one other : Engine O T E op net) (job : Collective) (words lent : List ℕ) (budget : ℕ)
+    (origin : Network) (m : Meaning E) (stands : Stands origin one) (new : plain origin one ≡ made engine_name m origin) where
   -- what the machine answers after the opening calls
   opened : (name number count : ℕ) (call : Call) (answer : ℕ → Answer)
-      → (step (after (plain op net origin one) (opening job words name number (net one.transport).ranks count)) call).0 ≡ answer (net one.transport).ranks
+      → (step (after (plain origin one) (opening job words name number (net.meaning one.transport).ranks count)) call).0 ≡ answer (net.meaning one.transport).ranks
       → (step (after (made engine_name m origin) (opening job words name number origin.ranks count)) call).0 ≡ answer origin.ranks
   opened name number count call answer h =
-      let same : (net one.transport).ranks ≡ origin.ranks = stands.good.sound.same_ranks in
+      let same : (net.meaning one.transport).ranks ≡ origin.ranks = stands.good.sound.same_ranks in
       subst (λ s. (step (after s (opening job words name number origin.ranks count)) call).0 ≡ answer origin.ranks) new
-      (subst (λ p. (step (after (plain op net origin one) (opening job words name number p count)) call).0 ≡ answer p) same h)
+      (subst (λ p. (step (after (plain origin one) (opening job words name number p count)) call).0 ≡ answer p) same h)
 
   driven_alone : (answer : Answer) (behind : (name number : ℕ) → List Call)
-      → DrivenTo op net sound one other job words lent budget answer behind
+      → DrivenTo one other job words lent budget answer behind
       → Driven m origin job words budget lent answer
   driven_alone answer behind d = record {
     name = d.name;
@@ -42,12 +44,12 @@ module _ {O T E : Type 0} (op : O → Meaning E) (net : T → Network) (sound : 
   }
 
   pub comes_to : (out : List ℕ) (result : Result Tally Incomplete)
-      → Completes op net sound one job words lent out result
+      → Completes one job words lent out result
       → Unwritten result lent out
-      → Does op net sound one other job words lent out budget result
+      → Does one other job words lent out budget result
       → ComesTo m origin job words budget lent out result
   comes_to out (Ok tally) completes _ does = (completes origin engine_name m stands new, driven_alone _ _ does)
   comes_to out (Err (Start f)) _ unwritten does =
       let first : Call = start (kind_of job) (root_of job) words in
-      (unwritten, subst (λ s. (step s first).0 ≡ refused (start_refusal f)) new (told_step op net sound one other first (refused (start_refusal f)) does origin stands))
+      (unwritten, subst (λ s. (step s first).0 ≡ refused (start_refusal f)) new (told_step one other first (refused (start_refusal f)) does origin stands))
   comes_to out (Err (End f)) _ unwritten does = (unwritten, driven_alone _ _ does)

@@ -25,6 +25,8 @@ use Rattle.runner.specs.declared.Incomplete.TheVariants.{Start, End}
 use Rattle.runner.specs.Complete.{Completed, opening}
 use Rattle.bridge.specs.declared.job.Job.{Job}
 use Rattle.bridge.specs.declared.job.Report.{Report}
+use Rattle.bridge.specs.declared.outcome.Refusal.{Refusal}
+use Rattle.bridge.specs.declared.outcome.Refusal.TheVariants.{NoCollective, NoOperation, Modulus, Incomplete as NotCompleted}
 use Rattle.bridge.specs.Given.{collective_at, Over}
 
 -- the name of the engine that runs the job
@@ -56,16 +58,23 @@ abbrev pub word_of : BlockFault → ℕ
 word_of WrongLength = 0
 word_of (WrongWord place) = place
 
--- the status: 0, or the refusal's number
+-- the status of a job whose end was refused
 abbrev pub end_status : EndFault → ℕ
 end_status end_fault.UnknownJob = number_of (end_refusal end_fault.UnknownJob)
 end_status end_fault.Unfinished = out_of_sweeps
 end_status end_fault.TooFewWords = number_of (end_refusal end_fault.TooFewWords)
 
-abbrev pub status_of : Result Tally Incomplete → ℕ
+abbrev pub refusal_number : Refusal → ℕ
+refusal_number NoCollective = no_collective
+refusal_number NoOperation = no_operation
+refusal_number (Modulus f) = modulus_number f
+refusal_number (NotCompleted (Start f)) = number_of (start_refusal f)
+refusal_number (NotCompleted (End f)) = end_status f
+
+-- the status: 0, or the refusal's number
+abbrev pub status_of : Result Tally Refusal → ℕ
 status_of (Ok tally) = 0
-status_of (Err (Start f)) = number_of (start_refusal f)
-status_of (Err (End f)) = end_status f
+status_of (Err r) = refusal_number r
 
 -- the report: the counts of a job that ended; rank, the operation's own number and word of a block that was refused; else zeros
 abbrev pub start_report : StartFault → Report
@@ -77,10 +86,21 @@ start_report start_fault.FourPending = blank
 start_report start_fault.Crowded = blank
 start_report start_fault.NumbersSpent = blank
 
-abbrev pub report_of : Result Tally Incomplete → Report
+abbrev pub refusal_report : Refusal → Report
+refusal_report NoCollective = blank
+refusal_report NoOperation = blank
+refusal_report (Modulus f) = blank
+refusal_report (NotCompleted (Start f)) = start_report f
+refusal_report (NotCompleted (End f)) = blank
+
+abbrev pub report_of : Result Tally Refusal → Report
 report_of (Ok tally) = counts tally.rounds tally.messages
-report_of (Err (Start f)) = start_report f
-report_of (Err (End f)) = blank
+report_of (Err r) = refusal_report r
+
+-- how a job came out that was run, among all that a call may come to
+abbrev pub outcome : Result Tally Incomplete → Result Tally Refusal
+outcome (Ok tally) = Ok tally
+outcome (Err i) = Err (NotCompleted i)
 
 module _ {E : Type 0} (m : Meaning E) (net : Network) (job : Collective) (words : List ℕ) (sweeps : ℕ) (lent : List ℕ) where
   -- a new machine starts the job, sweeps for it no more often than allowed, fewer times only where it is finished, and
@@ -105,8 +125,8 @@ module _ {E : Type 0} (m : Meaning E) (net : Network) (job : Collective) (words 
   pub record Ran (out : List ℕ) (status : ℕ) (report : Report) : Type 0 where
     pub result : Result Tally Incomplete
     pub comes : ComesTo out result
-    pub status_is : status ≡ status_of result
-    pub report_is : report ≡ report_of result
+    pub status_is : status ≡ status_of (outcome result)
+    pub report_is : report ≡ report_of (outcome result)
 
 -- a call refused before a job is made of its numbers
 pub record TurnedAway (number : ℕ) (lent out : List ℕ) (status : ℕ) (report : Report) : Type 0 where

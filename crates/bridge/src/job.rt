@@ -1,8 +1,4 @@
 // A job and a report, as they cross to C.
-ghost use Rattle.bridge.specs.Given.{collective_at};
-ghost use Rattle.std.specs.Prelude.{◌≡◌};
-
-use schedule::Collective;
 
 // A job as numbers: which collective with which root, by which operation, among how many ranks, in how many sweeps at most.
 // The root counts where the collective has one, the modulus where the operation is that of maps.
@@ -28,19 +24,4 @@ pub struct Report {
     pub rank: usize,
     pub fault: u32,
     pub word: usize,
-}
-
-// The collective of a number.
-pub(crate) fn collective_of(code: u32, root: usize) -> Option<Collective>
-    ensures { result ≡ collective_at code root }
-{
-    match code {
-        0 => Some(Collective::Broadcast { root }),
-        1 => Some(Collective::Gather { root }),
-        2 => Some(Collective::Reduce { root }),
-        3 => Some(Collective::Scan),
-        4 => Some(Collective::Exscan),
-        5 => Some(Collective::Allreduce),
-        _ => None,
-    }
 }

@@ -1,19 +1,44 @@
-// What a job came to, in numbers.
-ghost use Rattle.bridge.specs.Outcome.{engine_name, blank as blank_report, word_of, end_status as status_of_end, start_report as report_of_start, status_of as status_of_job, report_of as report_of_job, Ran};
-ghost use Rattle.engine.specs.Abs.{plain, Stands, Sound};
-ghost use Rattle.machine.specs.Network.{Network};
-ghost use Rattle.machine.specs.Operation.{Meaning};
-ghost use Rattle.machine.specs.Plain.{made};
+// What a call came to, and how C is told of it.
+ghost use Rattle.bridge.specs.Outcome.{word_of, end_status as status_of_end, refusal_number, start_report as report_of_start, refusal_report, status_of, report_of as report_of_outcome};
+ghost use Rattle.bridge.specs.declared.outcome.Refusal.TheVariants.{Modulus as BadModulus, Incomplete as NotCompleted};
 ghost use Rattle.std.specs.Prelude.{◌≡◌};
 
 use crate::job::Report;
 use engine::answer::{EndFault, StartFault, Tally};
-use engine::state::Engine;
-use operation::Operation;
-use operation::fault::BlockFault;
-use runner::{Incomplete, complete};
-use schedule::Collective;
-use transport::Transport;
+use operation::fault::{BlockFault, ModulusFault};
+use runner::Incomplete;
+
+// Why a call has no counts to tell.
+#[derive(Clone, Copy, PartialEq, Eq, Debug)]
+pub enum Refusal {
+    // no collective has the number given
+    NoCollective,
+    // no operation has the number given
+    NoOperation,
+    Modulus(ModulusFault),
+    // the job was made of its numbers, and not completed
+    Incomplete(Incomplete),
+}
+
+impl From<ModulusFault> for Refusal {
+    ghost from_gives = { λ f r. r ≡ BadModulus f };
+
+    fn from(value: ModulusFault) -> Refusal {
+        Refusal::Modulus(value)
+    }
+}
+
+impl From<Incomplete> for Refusal {
+    ghost from_gives = { λ i r. r ≡ NotCompleted i };
+
+    fn from(value: Incomplete) -> Refusal {
+        Refusal::Incomplete(value)
+    }
+}
+
+const NO_COLLECTIVE: u32 = 60;
+
+const NO_OPERATION: u32 = 61;
 
 // A job was not finished within the sweeps allowed.
 const OUT_OF_SWEEPS: u32 = 42;
@@ -26,16 +51,6 @@ const BLANK: Report = Report {
     word: 0,
 };
 
-// The place of a block's wrong word, and 0 where its length is wrong.
-fn wrong_word(fault: BlockFault) -> usize
-    ensures { result ≡ word_of fault }
-{
-    match fault {
-        BlockFault::WrongLength => 0,
-        BlockFault::WrongWord(place) => place,
-    }
-}
-
 // The status of a job whose end was refused.
 fn end_status(fault: EndFault) -> u32
     ensures { result ≡ status_of_end fault }
@@ -46,14 +61,13 @@ fn end_status(fault: EndFault) -> u32
     }
 }
 
-// 0, or the refusal's number.
-fn status_of(res: Result<Tally, Incomplete>) -> u32
-    ensures { result ≡ status_of_job res }
+// The place of a block's wrong word, and 0 where its length is wrong.
+fn wrong_word(fault: BlockFault) -> usize
+    ensures { result ≡ word_of fault }
 {
-    match res {
-        Ok(_) => 0,
-        Err(Incomplete::Start(fault)) => fault.number(),
-        Err(Incomplete::End(fault)) => end_status(fault),
+    match fault {
+        BlockFault::WrongLength => 0,
+        BlockFault::WrongWord(place) => place,
     }
 }
 
@@ -72,44 +86,53 @@ fn start_report(fault: StartFault) -> Report
     }
 }
 
-// What is told beside the status.
-fn report_of(res: Result<Tally, Incomplete>) -> Report
-    ensures { result ≡ report_of_job res }
+impl Refusal {
+    // The status that tells it.
+    fn number(self) -> u32
+        ensures { result ≡ refusal_number self }
+    {
+        match self {
+            Refusal::NoCollective => NO_COLLECTIVE,
+            Refusal::NoOperation => NO_OPERATION,
+            Refusal::Modulus(fault) => fault.number(),
+            Refusal::Incomplete(Incomplete::Start(fault)) => fault.number(),
+            Refusal::Incomplete(Incomplete::End(fault)) => end_status(fault),
+        }
+    }
+
+    // What is told beside the status.
+    fn report(self) -> Report
+        ensures { result ≡ refusal_report self }
+    {
+        match self {
+            Refusal::Incomplete(Incomplete::Start(fault)) => start_report(fault),
+            _ => BLANK,
+        }
+    }
+}
+
+// The counts of a job that ended, or what is told of a refusal.
+fn report_of(outcome: Result<Tally, Refusal>) -> Report
+    ensures { result ≡ report_of_outcome outcome }
 {
-    match res {
+    match outcome {
         Ok(tally) => Report {
             rounds: tally.rounds,
             messages: tally.messages,
             ..BLANK
         },
-        Err(Incomplete::Start(fault)) => start_report(fault),
-        Err(Incomplete::End(_)) => BLANK,
+        Err(refusal) => refusal.report(),
     }
 }
 
-// Refuses a call before a job is made of its numbers.
-pub(crate) fn turn_away(number: u32, report: &mut Report) -> u32
-    ensures number { result ≡ number }
-    ensures nothing { report.new ≡ blank_report }
+// Writes the report, and answers the status: 0, or the refusal's number.
+pub(crate) fn tell(outcome: Result<Tally, Refusal>, report: &mut Report) -> u32
+    ensures status { result ≡ status_of outcome }
+    ensures report { report.new ≡ report_of_outcome outcome }
 {
-    *report = BLANK;
-    number
-}
-
-// Runs a job on an engine, and tells what it came to: on a new engine, what the job comes to alone.
-pub(crate) fn conclude<O: Operation, T: Transport>(
-    engine: &mut Engine<O, T>,
-    job: Collective,
-    inputs: &[u32],
-    sweeps: usize,
-    out: &mut [u32],
-    report: &mut Report,
-) -> u32
-    requires { Sound O.Operation.meaning T.Transport.meaning T.Transport.sound engine.old }
-    ensures sound { Sound O.Operation.meaning T.Transport.meaning T.Transport.sound engine.new }
-    ensures told { (net : Network) (m : Meaning O.Element) → Stands O.Operation.meaning T.Transport.meaning T.Transport.sound net engine.old → plain O.Operation.meaning T.Transport.meaning net engine.old ≡ made engine_name m net → Ran m net job inputs.now sweeps out.old out.new result report.new }
-{
-    let result = complete(engine, job, inputs, sweeps, out);
-    *report = report_of(result);
-    status_of(result)
+    *report = report_of(outcome);
+    match outcome {
+        Ok(_) => 0,
+        Err(refusal) => refusal.number(),
+    }
 }

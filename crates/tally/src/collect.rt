@@ -1,25 +1,42 @@
-// One collective job from its start to its end, over records lent to a log under segmenting and a group of all ranks.
-ghost use Rattle.engine.specs.Abs.{Sound};
+// One collective job from its start to its end, and the layers that it runs over.
+ghost use Rattle.std.specs.Mem.{FitsInMemory};
+ghost use Rattle.engine.specs.contracts.state.Engine.{the_row as engine_row};
 
-use engine::answer::Tally;
+use engine::answer::{EndFault, StartFault, Tally};
 use engine::state::Engine;
 use engine::token::Token;
 use group::Group;
 use operation::Operation;
-use operation::affine::Affine;
-use operation::text::Text;
 use runner::run;
 use schedule::Collective;
 use segmented::Segmented;
 use shared_log::{Log, Record};
+use std::fmt;
 use transport::Transport;
 
-// How a job came out.
-#[derive(Clone, Copy)]
-pub enum Outcome {
-    Ended(Tally),
-    // the refusal's number, and how many ranks were through
-    Refused { number: u32, through: usize },
+// Why a job has no answer.
+#[derive(Clone, Copy, Debug)]
+pub enum Refusal {
+    // it was not started
+    Start(StartFault),
+    // it was not ended, and so given up; how many ranks were through
+    End { fault: EndFault, through: usize },
+}
+
+impl From<StartFault> for Refusal {
+    fn from(value: StartFault) -> Refusal {
+        Refusal::Start(value)
+    }
+}
+
+impl fmt::Display for Refusal {
+    fn fmt<W: fmt::Write>(&self, f: &mut fmt::Formatter<W>) -> fmt::Result {
+        let (number, through) = match self {
+            Refusal::Start(fault) => (fault.number(), 0),
+            Refusal::End { fault, through } => (fault.number(), *through),
+        };
+        write!(f, "refused {number}, ranks through {through}")
+    }
 }
 
 // The engine's name, by which its tokens are known.
@@ -29,9 +46,9 @@ const NAME: u16 = 1;
 const SWEEPS: usize = 64;
 
 // Enough for two messages of each of 64 pairs in segments of four words.
-const RECORDS: usize = 256;
+pub const RECORDS: usize = 256;
 
-const BLANK: Record = Record {
+pub const BLANK: Record = Record {
     from: 0,
     to: 0,
     tag: 0,
@@ -45,19 +62,15 @@ fn settle<O: Operation, T: Transport>(
     engine: &mut Engine<O, T>,
     token: Token,
     out: &mut [u32],
-) -> Outcome
-    requires { Sound O.Operation.meaning T.Transport.meaning T.Transport.sound engine.old }
-    ensures { Sound O.Operation.meaning T.Transport.meaning T.Transport.sound engine.new }
-{
+) -> Result<Tally, Refusal> {
     // A slot, so that a look after the end is seen to have no token.
     let mut held = Some(token);
     let through = engine.look(held.as_ref().unwrap()).unwrap_or(0);
     match engine.end(held.take().unwrap(), out) {
-        Ok(tally) => Outcome::Ended(tally),
+        Ok(tally) => Ok(tally),
         Err((fault, back)) => {
             let _ = engine.abandon(back);
-            let number = fault.number();
-            Outcome::Refused { number, through }
+            Err(Refusal::End { fault, through })
         }
     }
 }
@@ -68,46 +81,31 @@ fn collect<O: Operation, T: Transport>(
     job: Collective,
     inputs: &[u32],
     out: &mut [u32],
-) -> Outcome
-    requires { Sound O.Operation.meaning T.Transport.meaning T.Transport.sound engine.old }
-    ensures { Sound O.Operation.meaning T.Transport.meaning T.Transport.sound engine.new }
-{
-    match engine.start(job, inputs) {
-        Ok(token) => {
-            let _ = run(engine, &token, SWEEPS);
-            settle(engine, token, out)
-        }
-        Err(fault) => {
-            let number = fault.number();
-            Outcome::Refused { number, through: 0 }
-        }
-    }
+) -> Result<Tally, Refusal> {
+    let token = engine.start(job, inputs)?;
+    let _ = run(engine, &token, SWEEPS);
+    settle(engine, token, out)
 }
 
-// A job on texts, one of each rank listed.
-pub fn over_texts(ranks: &[usize], job: Collective, inputs: &[u32], out: &mut [u32]) -> Outcome {
-    let mut records = [BLANK; RECORDS];
-    let log = Log::new(ranks.len(), &mut records);
-    let group = Group::new(Segmented::new(log), ranks);
-    let mut engine = Engine::new(NAME, Text, group);
-    let outcome = collect(&mut engine, job, inputs, out);
-    let (_, _layers) = engine.into_parts();
-    outcome
+// The ranks listed, over a log in the lent records.
+pub fn layers<'a>(records: &'a mut [Record], ranks: &[usize]) -> Group<Segmented<Log<'a>>> {
+    let log = Log::new(ranks.len(), records);
+    Group::new(Segmented::new(log), ranks)
 }
 
-// A job on maps, one of each rank listed.
-pub fn over_maps(
-    maps: Affine,
-    ranks: &[usize],
+// A job by an operation, each rank of the transport with its block of the inputs. The engine's type fits in memory, which is
+// plain wherever the operation and the transport are known.
+pub fn over<O: Operation + Drop, T: Transport + Drop>(
+    operation: O,
+    transport: T,
     job: Collective,
     inputs: &[u32],
     out: &mut [u32],
-) -> Outcome {
-    let mut records = [BLANK; RECORDS];
-    let log = Log::new(ranks.len(), &mut records);
-    let group = Group::new(Segmented::new(log), ranks);
-    let mut engine = Engine::new(NAME, maps, group);
+) -> Result<Tally, Refusal>
+    requires { FitsInMemory (engine_row O.row T.row O.Element.row O.Operation T.Transport) }
+{
+    let mut engine = Engine::new(NAME, operation, transport);
     let outcome = collect(&mut engine, job, inputs, out);
-    let (_, _layers) = engine.into_parts();
+    let (_operation, _transport) = engine.into_parts();
     outcome
 }

@@ -1,20 +1,25 @@
 // A text in as many parts as there are ranks, measured part by part and joined in rank order.
-ghost use Rattle.std.specs.Prelude.{◌≡◌, ℕ, ◌+◌, ◌*◌, ◌<◌, ◌≤◌, length, fold};
+ghost use Rattle.std.specs.Prelude.{◌≡◌, ℕ, ◌+◌, ◌*◌, ◌<◌, ◌≤◌, fold};
 ghost use Rattle.operation.specs.Text.{measured, text as text_meaning};
-ghost use Rattle.operation.specs.declared.text.TextElement.TheVariants.{Empty};
 ghost use Rattle.tally.specs.Parts.{cut_at, part_of, PartsMeasured, totals_of};
 
 use operation::Operation;
-use operation::text::{Text, TextElement};
-use std::fmt;
+use operation::text::{Counts, Text};
+use std::{array, fmt};
 
 pub const RANKS: usize = 8;
+
+// How many words the block of a text has.
+pub const WIDTH: usize = 4;
+
+// A block of each rank.
+pub type Blocks = [[u32; WIDTH]; RANKS];
 
 // What each rank counts of its part, and the whole text.
 #[derive(Clone, Copy)]
 pub struct Tally {
-    pub parts: [TextElement; RANKS],
-    pub whole: TextElement,
+    pub parts: [Option<Counts>; RANKS],
+    pub whole: Option<Counts>,
 }
 
 // The counts of a text as numbers, zeros for the empty text.
@@ -26,6 +31,7 @@ pub struct Totals {
 }
 
 // Where a rank's part begins. Parts are as even as can be, the longer ones first.
+#[tactic(auto, using(crate::proofs::Cuts::product_le))]
 fn cut(len: usize, rank: usize) -> usize
     requires { rank ≤ 8 }
     ensures place { result ≡ cut_at len rank }
@@ -35,7 +41,7 @@ fn cut(len: usize, rank: usize) -> usize
 }
 
 // The element of a rank's part.
-fn measure_part(text: &[u8], rank: usize) -> TextElement
+fn measure_part(text: &[u8], rank: usize) -> Option<Counts>
     requires { rank < 8 }
     ensures { result ≡ measured (part_of text.now rank) }
 {
@@ -45,29 +51,22 @@ fn measure_part(text: &[u8], rank: usize) -> TextElement
 }
 
 // The element of each rank's part.
-fn measure_parts(text: &[u8]) -> [TextElement; RANKS]
+fn measure_parts(text: &[u8]) -> [Option<Counts>; RANKS]
     ensures { PartsMeasured text.now result }
 {
-    let mut parts = [Text.unit(); RANKS];
-    for rank in 0..RANKS {
-        parts[rank] = measure_part(text, rank);
-    }
-    parts
+    array::from_fn(|rank| measure_part(text, rank))
 }
 
 // The join of all, in rank order.
-fn join_all(parts: &[TextElement]) -> TextElement
+fn join_all(parts: &[Option<Counts>]) -> Option<Counts>
     ensures { result ≡ fold text_meaning.join text_meaning.unit parts.now }
 {
-    let mut sum = Text.unit();
-    for x in parts {
-        sum = Text.join(sum, *x);
-    }
-    sum
+    parts.iter().fold(Text.unit(), |sum, x| Text.join(sum, *x))
 }
 
 impl Tally {
     // Measures a text in parts; the join of the parts is the measure of the whole.
+    #[tactic(auto, using(crate::proofs::Cuts::joined_parts))]
     pub fn of(text: &[u8]) -> Tally
         ensures parts { PartsMeasured text.now result.parts }
         ensures whole { result.whole ≡ measured text.now }
@@ -78,55 +77,51 @@ impl Tally {
     }
 }
 
-// Writes the block of a rank's part to its place.
-fn pack_part(words: &mut [u32], rank: usize, part: TextElement)
-    requires { 4 * rank + 4 ≤ length words.old }
-{
-    let at = 4 * rank;
-    Text.pack(part, &mut words[at..at + 4]);
+// The block of a part.
+fn pack_part(part: Option<Counts>) -> [u32; WIDTH] {
+    let mut block = [0; WIDTH];
+    Text.pack(part, &mut block);
+    block
 }
 
 // The blocks of all parts, in rank order.
-pub fn pack_parts(parts: &[TextElement; RANKS]) -> [u32; 32] {
-    let mut words = [0; 32];
-    for rank in 0..RANKS {
-        pack_part(&mut words, rank, parts[rank]);
+pub fn pack_parts(parts: &[Option<Counts>; RANKS]) -> Blocks {
+    parts.map(pack_part)
+}
+
+impl From<Option<Counts>> for Totals {
+    ghost from_gives = { λ x r. r ≡ totals_of x };
+
+    fn from(value: Option<Counts>) -> Totals {
+        let Some(c) = value else {
+            return Totals {
+                bytes: 0,
+                lines: 0,
+                words: 0,
+            };
+        };
+        Totals {
+            bytes: c.bytes,
+            lines: c.lines,
+            words: c.words,
+        }
     }
-    words
 }
 
 impl Totals {
     // The counts of a block.
     pub fn of_block(block: &[u32]) -> Totals {
-        match Text.unpack(block) {
-            Ok(x) => Totals::of(x),
-            Err(_) => Totals::of(TextElement::Empty),
-        }
-    }
-
-    pub fn of(x: TextElement) -> Totals
-        ensures { result ≡ totals_of x }
-    {
-        match x {
-            TextElement::Empty => Totals {
-                bytes: 0,
-                lines: 0,
-                words: 0,
-            },
-            TextElement::Filled(c) => Totals {
-                bytes: c.bytes,
-                lines: c.lines,
-                words: c.words,
-            },
-        }
+        Text.unpack(block).unwrap_or_default().into()
     }
 }
 
 impl fmt::Display for Totals {
     fn fmt<W: fmt::Write>(&self, f: &mut fmt::Formatter<W>) -> fmt::Result {
-        let bytes = self.bytes;
-        let lines = self.lines;
-        let words = self.words;
+        let Totals {
+            bytes,
+            lines,
+            words,
+        } = self;
         write!(f, "bytes {bytes} lines {lines} words {words}")
     }
 }
