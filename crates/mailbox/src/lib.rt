@@ -215,10 +215,9 @@ fn slot_count(ranks: usize, depth: usize) -> usize
 fn is_usable(ranks: usize, depth: usize, lent: usize) -> bool
     ensures { result ≡ usable ranks depth lent }
 {
-    if ranks < 1 || ranks > MAX_RANKS || depth < 1 || depth > MAX_DEPTH {
-        return false;
-    }
-    SLOT_WORDS * slot_count(ranks, depth) <= lent
+    (1..=MAX_RANKS).contains(&ranks)
+        && (1..=MAX_DEPTH).contains(&depth)
+        && SLOT_WORDS * slot_count(ranks, depth) <= lent
 }
 
 // A matrix holds the lent words that it uses; `used` messages wait in all.
