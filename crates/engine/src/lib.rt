@@ -17,7 +17,7 @@ ghost use Rattle.engine.specs.Abs.{plain, Stands, Steps, Due, place_of, state_ta
 ghost use Rattle.engine.specs.Answers.{start_answer, turn_answer, carry_answer, look_answer, end_answer, HandedBack, abandon_answer};
 
 use answer::{EndFault, StartFault, Tally, Turn, TurnFault, UnknownJob};
-use engine_parts::clearing::clear_job;
+use engine_parts::clearing::{LABELS, clear_job};
 use engine_parts::inputs::read_inputs;
 use engine_parts::mail::{Mail, send_value, take_value};
 use engine_parts::outputs::write_block;
@@ -253,9 +253,9 @@ impl<O: Operation, T: Transport> Engine<O, T> {
     }
 
     // Does the next action of a rank of the token's job, which is a take, if a message has arrived.
-    fn take(&mut self, token: &Token, seat: Seat, from: usize, label: u32, merge: Merge) -> bool
+    fn take(&mut self, token: &Token, seat: Seat, from: usize, label: u32, merge: Merge) -> Turn
         requires { Due self.old token.now seat.place seat.rank (Take from label merge) }
-        ensures { Steps self.old self.new (turn token.now.name token.now.number seat.rank) (if result then took else waits) }
+        ensures { Steps self.old self.new (turn token.now.name token.now.number seat.rank) (turn_answer (Ok result)) }
     {
         let state = self.jobs.job(seat.place).state(seat.rank);
         let pair = Pair {
@@ -264,11 +264,11 @@ impl<O: Operation, T: Transport> Engine<O, T> {
         };
         let tag = job_tag(token.number, label);
         let Some(mail) = take_value(&self.operation, &mut self.transport, pair, tag) else {
-            return false;
+            return Turn::Waiting;
         };
         let after = merged(&self.operation, merge, state, mail);
         self.jobs.receive(seat.place, seat.rank, after, merge, state.done, mail.value);
-        true
+        Turn::Took
     }
 
     // One action of a rank for the token's job.
@@ -288,13 +288,7 @@ impl<O: Operation, T: Transport> Engine<O, T> {
                 self.send(token, seat, to, label);
                 Ok(Turn::Sent)
             }
-            Action::Take { from, label, merge } => {
-                if self.take(token, seat, from, label, merge) {
-                    Ok(Turn::Took)
-                } else {
-                    Ok(Turn::Waiting)
-                }
-            }
+            Action::Take { from, label, merge } => Ok(self.take(token, seat, from, label, merge)),
         }
     }
 }
@@ -319,7 +313,7 @@ fn job_tag(number: u32, label: u32) -> u32
     requires { (number ≤ 65535) × (label < 16) }
     ensures { result ≡ tag_of number label }
 {
-    16 * number + label
+    LABELS * number + label
 }
 
 // Whether a job's messages and those pending are more than the room.

@@ -9,7 +9,7 @@ use ranks::Pair;
 use transport::Transport;
 
 // A job's tags are sixteen, one for each label.
-const LABELS: u32 = 16;
+pub const LABELS: u32 = 16;
 
 // Carries one message, if one is under way.
 fn carry_one<T: Transport>(transport: &mut T, pair: Pair) -> bool
