@@ -39,8 +39,14 @@ impl<E: Copy> Job<E> {
 
     // What stands in a place that no job has.
     pub fn blank(x: E) -> Job<E> {
-        let schedule = Schedule::new(Collective::Scan, 1).unwrap();
-        Job::new(0, schedule, [x; MAX_RANKS], x)
+        Job {
+            number: 0,
+            schedule: Schedule::new(Collective::Scan, 1).unwrap(),
+            inputs: [x; MAX_RANKS],
+            states: [first_state(x, x); MAX_RANKS],
+            kept: [x; MAX_RANKS],
+            sent: 0,
+        }
     }
 
     // What a rank has come to.
