@@ -18,15 +18,11 @@ collective_at code root =
     (cond (code == 4) (Some Exscan)
     (cond (code == 5) (Some Allreduce) None)))))
 
--- the network of the members listed; without members where the list is not good
-pub record Among (below : Network) (members : List ℕ) (net : Network) : Type 0 where
-  pub good : GoodList below.ranks members → net ≡ new_group (length members) below
-  pub bad : (GoodList below.ranks members → ⊥) → net ≡ nobody 7
-
--- a network of the members listed, of which that holds
+-- a network of the members listed, of which that holds; without members where the list is not good
 pub record Over (below : Network) (members : List ℕ) (holds : Network → Type 0) : Type 0 where
   pub net : Network
-  pub among : Among below members net
+  pub good : GoodList below.ranks members → net ≡ new_group (length members) below
+  pub bad : (GoodList below.ranks members → ⊥) → net ≡ nobody 7
   pub is : holds net
 
 -- messages of up to seven words over a log of so many ranks and lent records

@@ -1,3 +1,4 @@
+pub mod Fits
 pub mod Given
 pub mod Outcome
 pub mod Request

@@ -121,23 +121,28 @@ module _ {E : Type 0} (m : Meaning E) (net : Network) (job : Collective) (words 
   ComesTo out (Err (Start f)) = (out ≡ lent) × ((step (made engine_name m net) (start (kind_of job) (root_of job) words)).0 ≡ refused (start_refusal f))
   ComesTo out (Err (End f)) = (out ≡ lent) × Driven (refused (end_refusal f))
 
-  -- what C is told of a job that was run
-  pub record Ran (out : List ℕ) (status : ℕ) (report : Report) : Type 0 where
-    pub result : Result Tally Incomplete
-    pub comes : ComesTo out result
-    pub status_is : status ≡ status_of (outcome result)
-    pub report_is : report ≡ report_of (outcome result)
-
 -- a call refused before a job is made of its numbers
 pub record TurnedAway (number : ℕ) (lent out : List ℕ) (status : ℕ) (report : Report) : Type 0 where
   pub status_is : status ≡ number
   pub report_is : report ≡ blank
   pub unwritten : out ≡ lent
 
--- what a call tells and leaves, over some members of a network
+module _ (below : Network) (sweeps : ℕ) (members words lent out : List ℕ) where
+  -- over some members of a network the job comes to that result
+  abbrev pub RunsTo : {E : Type 0} → Meaning E → Collective → Result Tally Incomplete → Type 0
+  RunsTo m job result = Over below members (λ net. ComesTo m net job words sweeps lent out result)
+
+  -- and what C is told of it
+  pub record Ran {E : Type 0} (m : Meaning E) (job : Collective) (status : ℕ) (report : Report) : Type 0 where
+    pub result : Result Tally Incomplete
+    pub comes : RunsTo m job result
+    pub status_is : status ≡ status_of (outcome result)
+    pub report_is : report ≡ report_of (outcome result)
+
+-- what a call tells and leaves
 module _ (below : Network) (given : Job) (members words lent out : List ℕ) (status : ℕ) (report : Report) where
   abbrev pub RanBy : {E : Type 0} → Meaning E → Collective → Type 0
-  RanBy m job = Over below members (λ net. Ran m net job words given.sweeps lent out status report)
+  RanBy m job = Ran below given.sweeps members words lent out m job status report
 
   -- by maps, if the modulus is taken
   abbrev pub ByMaps : Collective → Result ℕ ModulusFault → Type 0

@@ -15,7 +15,7 @@ use Rattle.bridge.specs.declared.request.Reduction.{Reduction}
 use Rattle.bridge.specs.declared.request.Reduction.TheVariants.{Maps, Texts, Leasts}
 use Rattle.bridge.specs.declared.request.Request.{Request}
 use Rattle.bridge.specs.Given.{collective_at}
-use Rattle.bridge.specs.Outcome.{ComesTo}
+use Rattle.bridge.specs.Outcome.{RunsTo}
 
 -- the operation of a job's number
 abbrev pub Reduces : Job → Reduction → Type 0
@@ -45,10 +45,10 @@ NotReadAt given (Some job) refusal = NotReduced given refusal
 abbrev pub NotRead : Job → Refusal → Type 0
 NotRead given refusal = NotReadAt given (collective_at given.collective given.root) refusal
 
--- what a request comes to over a network, by an operation of that meaning
-module _ (request : Request) (net : Network) (lent out : List ℕ) (result : Result Tally Incomplete) where
+-- what a request comes to over some members of a network, by an operation of that meaning
+module _ (request : Request) (below : Network) (members lent out : List ℕ) (result : Result Tally Incomplete) where
   abbrev pub RunsWith : {E : Type 0} → Meaning E → Type 0
-  RunsWith m = ComesTo m net request.collective request.inputs.now request.sweeps lent out result
+  RunsWith m = RunsTo below request.sweeps members request.inputs.now lent out m request.collective result
 
   -- by an operation that was chosen
   abbrev pub RunsBy : Reduction → Type 0

@@ -1,34 +1,22 @@
 // C functions that run one collective job from its start to its end, on memory that the caller lends.
 #![tactic(auto)]
 
-ghost use Rattle.segmented.specs.Segments.{new_segmented};
-ghost use Rattle.bridge.specs.Given.{Among, log_below, mailbox_below};
+ghost use Rattle.bridge.specs.Given.{log_below, mailbox_below};
 ghost use Rattle.bridge.specs.Outcome.{status_of, report_of, Told, Measured};
 ghost use Rattle.std.specs.Prelude.{length};
 
 use engine::answer::{EndFault, Tally};
-use group::Group;
 use job::{Job, Report};
 use mailbox::Mailbox;
 use operation::Operation;
 use operation::text::Text;
 use outcome::{Refusal, tell};
 use request::Request;
-use segmented::Segmented;
 use shared_log::{Log, Record};
-use transport::Transport;
 
 pub mod job;
 mod outcome;
 mod request;
-
-// The members listed of a transport's ranks, for messages of up to seven words.
-fn among<T: Transport>(below: T, members: &[usize]) -> Group<Segmented<T>>
-    ensures { Among (new_segmented T.most (T.meaning below)) members.now (⟦<Group<Segmented<T>> as Transport>⟧.meaning result) }
-{
-    let layer = Segmented::new(below);
-    Group::new(layer, members)
-}
 
 // Runs a job over a log of the lent records. Where its numbers name no job, the records stay as they were.
 fn over_log(
@@ -42,7 +30,7 @@ fn over_log(
 {
     let request = Request::of(job, inputs)?;
     let log = Log::new(job.ranks, records);
-    let tally = request.run(among(log, members), out)?;
+    let tally = request.run(log, members, out)?;
     Ok(tally)
 }
 
@@ -59,7 +47,7 @@ fn over_mailbox(
 {
     let request = Request::of(job, inputs)?;
     let mailbox = Mailbox::new(job.ranks, depth, words);
-    let tally = request.run(among(mailbox, members), out)?;
+    let tally = request.run(mailbox, members, out)?;
     Ok(tally)
 }
 

@@ -1,6 +1,5 @@
 // A job whose numbers were read, and its run on an engine.
 ghost use Rattle.std.specs.Prelude.{◌≡◌, MatchResult};
-ghost use Rattle.std.specs.Mem.{FitsInMemory};
 ghost use Rattle.std.specs.contracts.option.Option.{the_row as option_row};
 ghost use Rattle.operation.specs.contracts.affine.Affine.{the_row as maps_row};
 ghost use Rattle.operation.specs.contracts.affine.AffineElement.{the_row as map_row};
@@ -8,7 +7,8 @@ ghost use Rattle.operation.specs.contracts.text.Text.{the_row as texts_row};
 ghost use Rattle.operation.specs.contracts.text.Counts.{the_row as counts_row};
 ghost use Rattle.operation.specs.contracts.least.Least.{the_row as leasts_row};
 ghost use Rattle.operation.specs.contracts.least.Placed.{the_row as placed_row};
-ghost use Rattle.engine.specs.contracts.state.Engine.{the_row as engine_row};
+ghost use Rattle.segmented.specs.Segments.{new_segmented};
+ghost use Rattle.bridge.specs.Fits.{EngineFits};
 ghost use Rattle.bridge.specs.Given.{collective_at};
 ghost use Rattle.bridge.specs.Request.{Reduces, NotReduced, Reads, NotRead, RunsWith, Runs};
 
@@ -16,12 +16,14 @@ use crate::job::Job;
 use crate::outcome::Refusal;
 use engine::answer::Tally;
 use engine::state::Engine;
+use group::Group;
 use operation::Operation;
 use operation::affine::Affine;
 use operation::least::Least;
 use operation::text::Text;
 use runner::{Incomplete, complete};
 use schedule::Collective;
+use segmented::Segmented;
 use transport::Transport;
 
 // By which operation the elements are joined.
@@ -88,38 +90,40 @@ impl<'a> Request<'a> {
         })
     }
 
-    // Runs the job from its start to its end on a new engine, by that operation. The engine's type fits in memory, which is
-    // plain wherever the operation and the transport are known.
+    // Runs the job from its start to its end on a new engine, by that operation, among the members listed of the ranks below.
     fn run_with<O: Operation + Drop, T: Transport + Drop>(
         &self,
         operation: O,
-        transport: T,
+        below: T,
+        members: &[usize],
         out: &mut [u32],
     ) -> Result<Tally, Incomplete>
-        requires { FitsInMemory (engine_row O.row T.row O.Element.row O.Operation T.Transport) }
-        ensures { RunsWith self.now (T.meaning transport) out.old out.new result (O.meaning operation) }
+        requires { EngineFits O.row O.Element.row T.row O.Operation T.Transport ⟦<Segmented<T> as Transport>⟧ ⟦<Group<Segmented<T>> as Transport>⟧ }
+        ensures { RunsWith self.now (new_segmented T.most (T.meaning below)) members.now out.old out.new result (O.meaning operation) }
     {
-        let mut engine = Engine::new(NAME, operation, transport);
+        let group = Group::new(Segmented::new(below), members);
+        let mut engine = Engine::new(NAME, operation, group);
         let outcome = complete(&mut engine, self.collective, self.inputs, self.sweeps, out);
-        let (_operation, _transport) = engine.into_parts();
+        let (_operation, _group) = engine.into_parts();
         outcome
     }
 
     // The same by the request's operation.
     pub(crate) fn run<T: Transport + Drop>(
         &self,
-        transport: T,
+        below: T,
+        members: &[usize],
         out: &mut [u32],
     ) -> Result<Tally, Incomplete>
-        requires maps { FitsInMemory (engine_row maps_row T.row map_row ⟦<Affine as Operation>⟧ T.Transport) }
-        requires texts { FitsInMemory (engine_row texts_row T.row (option_row counts_row) ⟦<Text as Operation>⟧ T.Transport) }
-        requires leasts { FitsInMemory (engine_row leasts_row T.row (option_row placed_row) ⟦<Least as Operation>⟧ T.Transport) }
-        ensures { Runs self.now (T.meaning transport) out.old out.new result }
+        requires maps { EngineFits maps_row map_row T.row ⟦<Affine as Operation>⟧ T.Transport ⟦<Segmented<T> as Transport>⟧ ⟦<Group<Segmented<T>> as Transport>⟧ }
+        requires texts { EngineFits texts_row (option_row counts_row) T.row ⟦<Text as Operation>⟧ T.Transport ⟦<Segmented<T> as Transport>⟧ ⟦<Group<Segmented<T>> as Transport>⟧ }
+        requires leasts { EngineFits leasts_row (option_row placed_row) T.row ⟦<Least as Operation>⟧ T.Transport ⟦<Segmented<T> as Transport>⟧ ⟦<Group<Segmented<T>> as Transport>⟧ }
+        ensures { Runs self.now (new_segmented T.most (T.meaning below)) members.now out.old out.new result }
     {
         match self.reduction {
-            Reduction::Maps(maps) => self.run_with(maps, transport, out),
-            Reduction::Texts => self.run_with(Text, transport, out),
-            Reduction::Leasts => self.run_with(Least, transport, out),
+            Reduction::Maps(maps) => self.run_with(maps, below, members, out),
+            Reduction::Texts => self.run_with(Text, below, members, out),
+            Reduction::Leasts => self.run_with(Least, below, members, out),
         }
     }
 }
