@@ -46,9 +46,9 @@ const NAME: u16 = 1;
 const SWEEPS: usize = 64;
 
 // Enough for two messages of each of 64 pairs in segments of four words.
-pub const RECORDS: usize = 256;
+pub(crate) const RECORDS: usize = 256;
 
-pub const BLANK: Record = Record {
+pub(crate) const BLANK: Record = Record {
     from: 0,
     to: 0,
     tag: 0,
@@ -88,14 +88,14 @@ fn collect<O: Operation, T: Transport>(
 }
 
 // The ranks listed, over a log in the lent records.
-pub fn layers<'a>(records: &'a mut [Record], ranks: &[usize]) -> Group<Segmented<Log<'a>>> {
+pub(crate) fn layers<'a>(records: &'a mut [Record], ranks: &[usize]) -> Group<Segmented<Log<'a>>> {
     let log = Log::new(ranks.len(), records);
     Group::new(Segmented::new(log), ranks)
 }
 
 // A job by an operation, each rank of the transport with its block of the inputs. The engine's type fits in memory, which is
 // plain wherever the operation and the transport are known.
-pub fn over<O: Operation + Drop, T: Transport + Drop>(
+pub(crate) fn over<O: Operation + Drop, T: Transport + Drop>(
     operation: O,
     transport: T,
     job: Collective,
