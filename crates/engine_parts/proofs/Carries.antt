@@ -7,11 +7,11 @@ use Rattle.ranks.specs.Ranks.{pair_ok}
 use Rattle.transport.proofs.Tables.{put_here, put_put, put_same}
 use Rattle.engine_parts.specs.Clearing.{some_in, delivered}
 
-moved_refuses_not : (f : ℕ) (l : List Message) → refused f ≡ some_moved l → ⊥
+pub moved_refuses_not : (f : ℕ) (l : List Message) → refused f ≡ some_moved l → ⊥
 moved_refuses_not f [] e = let z : ◌≡◌ {A = ℕ} 0 1 = cc in omega arith
 moved_refuses_not f (x ∷ l) e = let z : ◌≡◌ {A = ℕ} 0 1 = cc in omega arith
 
-moved_some : (t : Bool) (l : List Message) → value (cond t 1 0) ≡ some_moved l → t ≡ some_in l
+pub moved_some : (t : Bool) (l : List Message) → value (cond t 1 0) ≡ some_moved l → t ≡ some_in l
 moved_some true [] e = let z : ◌≡◌ {A = ℕ} 1 0 = cc in absurd (omega arith)
 moved_some false [] e = refl
 moved_some true (x ∷ l) e = refl

@@ -23,7 +23,7 @@ pub record Found {E : Type 0} (m : Meaning E) (o : Option Message) (size : ℕ) 
   pub count : size ≡ length at.words
   pub read : take size buffer ≡ at.words
 
-counted_refuses_not : (f : ℕ) (o : Option Message) → refused f ≡ word_count o → ⊥
+pub counted_refuses_not : (f : ℕ) (o : Option Message) → refused f ≡ word_count o → ⊥
 counted_refuses_not f None k = let z : ◌≡◌ {A = ℕ} 0 1 = cc in omega arith
 counted_refuses_not f (Some x) k = let z : ◌≡◌ {A = ℕ} 0 1 = cc in omega arith
 

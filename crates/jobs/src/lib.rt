@@ -8,7 +8,7 @@ ghost use Rattle.programme.specs.declared.Merge.TheVariants.{Keep};
 ghost use Rattle.schedule.specs.Collective.{actions_of, messages_of};
 ghost use Rattle.jobs.specs.declared.job.Job.{Job};
 ghost use Rattle.jobs.specs.declared.job.RankState.{RankState};
-ghost use Rattle.jobs.specs.Tables.{states, first_state, first_job, pending_jobs, place, with_sent, with_received, idle_at, idle_below, arrival_at, gathered_at, result_count, result_at, messages_in};
+ghost use Rattle.jobs.specs.Tables.{states, first_state, first_job, pending_jobs, place, with_state, with_sent, with_received, idle_at, idle_below, arrival_at, gathered_at, result_count, result_at, messages_in};
 ghost use Rattle.jobs.specs.Updates.{update};
 
 use job::{Job, RankState};
@@ -21,7 +21,8 @@ pub mod job;
 pub mod table;
 
 impl<E: Copy> Job<E> {
-    // A job of which no action is done.
+    // A job of which no action is done. Inlined, so that the job is made where it comes to stand, and not copied there.
+    #[inline(always)]
     pub fn new(number: u32, schedule: Schedule, inputs: [E; MAX_RANKS], unit: E) -> Job<E>
         ensures { result ≡ first_job number schedule inputs unit }
     {
@@ -165,8 +166,8 @@ impl<E: Copy> Job<E> {
         requires { (rank < most_ranks) × (self.old.sent + 1 < 2 ^ 64) }
         ensures { self.new ≡ with_sent rank state self.old }
     {
-        self.states[rank] = state;
-        self.sent += 1;
+        let sent = self.sent + 1;
+        self.put(rank, state, sent);
     }
 
     // What a take leaves: the rank's new state, and the value where the rank keeps it.
@@ -178,11 +179,22 @@ impl<E: Copy> Job<E> {
         if merge == Merge::Keep {
             self.kept[at] = value;
         }
+        let sent = self.sent;
+        self.put(rank, state, sent);
+    }
+
+    // Writes what a rank has come to, and the count of turns answered sent.
+    fn put(&mut self, rank: usize, state: RankState<E>, sent: usize)
+        requires { rank < most_ranks }
+        ensures { self.new ≡ with_state rank state sent self.old }
+    {
         self.states[rank] = state;
+        self.sent = sent;
     }
 }
 
 // Lets each rank hold its input.
+#[inline(always)]
 fn hold_inputs<E: Copy>(states: &mut [RankState<E>], inputs: &[E], unit: E)
     requires { length states.old ≡ length inputs.now }
     ensures { states.new ≡ map (first_state unit) inputs.now }
@@ -289,7 +301,11 @@ impl<E: Copy> Table<E> {
         requires { i < length (pending_jobs self.old) }
         ensures { pending_jobs self.new ≡ remove (pending_jobs self.old) i }
     {
-        self.jobs.copy_within(i + 1..self.pending, i);
-        self.pending -= 1;
+        let last = self.pending - 1;
+        // A loop, since the library for C would need memmove for copy_within.
+        for place in i..last {
+            self.jobs[place] = self.jobs[place + 1];
+        }
+        self.pending = last;
     }
 }

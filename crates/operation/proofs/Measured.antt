@@ -3,7 +3,8 @@ use Rattle.std.proofs.Common.{◌≡◌, ◌==◌, ℕ, ◌+◌, ◌-◌, ◌%�
 use Rattle.std.proofs.lemmas.List.Sums.{sum_by-append}
 use Rattle.std.specs.List.{fold}
 use Rattle.operation.specs.TextLaws.{lost_small}
-use Rattle.operation.specs.Text.{counts_of, text_join, lost_word, measured, in_word, line_count, word_starts, word_count, last_byte}
+use Rattle.operation.specs.Text.{counts_of, counts_join, text_join, lost_word, measured, in_word, line_count, word_starts, word_count, last_byte}
+use Rattle.operation.specs.declared.text.Counts.{Counts}
 
 last_append : (x : ℕ) (xs : List ℕ) (y : ℕ) (ys : List ℕ) → last_byte x (xs ++ (y ∷ ys)) ≡ last_byte y ys
 last_append x [] y ys = refl
@@ -64,3 +65,13 @@ joined_bytes xs (y ∷ ys) =
 
 pub measured_by_byte : (bytes : List ℕ) → fold (λ sum b. text_join sum (measured (b ∷ []))) None bytes ≡ measured bytes
 measured_by_byte bytes = joined_bytes [] bytes
+
+-- the counts of a text of one byte
+abbrev pub byte_counts : ℕ → Counts
+byte_counts b = counts_of (1 % 2 ^ 32) (line_count (b ∷ []) % 2 ^ 32) (word_count (b ∷ []) % 2 ^ 32) (in_word b) (in_word b)
+
+-- joining single bytes to a text that is not empty joins their counts
+pub joined_counts : (sum : Counts) (bs : List ℕ)
+    → fold (λ s b. text_join s (measured (b ∷ []))) (Some sum) bs ≡ Some (fold (λ s b. counts_join s (byte_counts b)) sum bs)
+joined_counts sum [] = refl
+joined_counts sum (b ∷ bs) = joined_counts (counts_join sum (byte_counts b)) bs

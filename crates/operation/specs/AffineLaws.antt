@@ -8,7 +8,7 @@ use Rattle.std.specs.List.{AllByRecursion}
 use Rattle.operation.specs.Meaning.{Monoid, Packing}
 use Rattle.operation.specs.Affine.{affine, affine_of, affine_proper, affine_join, affine_read}
 use Rattle.operation.specs.declared.affine.AffineElement.{AffineElement}
-use Rattle.operation.specs.Reading.{Fair, below_fair, words_from, packing_from}
+use Rattle.operation.specs.Reading.{Fair, below_fair, words_from, packing_from_words}
 
 mul_mod_add : (a b c m : ℕ) → (a * (b % m) + c) % m ≡ (a * b + c) % m
 mul_mod_add a b c m =
@@ -79,4 +79,4 @@ module _ (m : ℕ) (low : 2 ≤ m) (high : m ≤ 2147483647) where
   }
 
   pub affine_packing : Packing (affine m)
-  affine_packing = packing_from (affine m) _ (λ _. refl) fair (λ _ _. refl) words read_back
+  affine_packing = packing_from_words (affine m) _ (λ _. refl) fair (λ _ _. refl) words read_back

@@ -9,7 +9,7 @@ use Rattle.operation.specs.Optional.{present_assoc, present_unit, present_proper
 use Rattle.operation.specs.Meaning.{Monoid, Packing}
 use Rattle.operation.specs.Least.{least, placed_at, first, first_of, placed_proper, least_proper, least_pack, least_read, none_read, some_read, biased, unbiased}
 use Rattle.operation.specs.declared.least.Placed.{Placed}
-use Rattle.operation.specs.Reading.{Fair, below_fair, below-one, words_from, packing_from}
+use Rattle.operation.specs.Reading.{Fair, below_fair, below-one, words_from, packing_from_words}
 
 first_trans : (x y z : Placed) → first x y ≡ true → first y z ≡ true → first x z ≡ true
 first_trans x y z p q = grind (arith, ints, nat_tests)
@@ -119,4 +119,4 @@ least_monoid = record {
 }
 
 pub least_packing : Packing least
-least_packing = packing_from least _ (λ _. refl) fair (λ x _. long x) words read_back
+least_packing = packing_from_words least _ (λ _. refl) fair (λ x _. long x) words read_back

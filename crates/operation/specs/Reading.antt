@@ -53,10 +53,7 @@ module _ {E : Type 0} (m : Meaning E) where
     sized_refused : (b : List ℕ) → (length b ≢ m.width) → m.unpack b ≡ Err WrongLength
     sized_refused b h = is b ∙ cond-false (length b == m.width) (read b) (Err WrongLength) (ne_eqb _ _ h)
 
-    module _ (fair_words : (b : List ℕ) → Fair (words_from b 0 m.width) (read b)) where
-      fair : (b : List ℕ) → length b ≡ m.width → Fair b (read b)
-      fair b h = subst (λ block. Fair block (read b)) (sym (words_at b m.width h)) (fair_words b)
-
+    module _ (fair : (b : List ℕ) → length b ≡ m.width → Fair b (read b)) where
       fair_ok : (b : List ℕ) (x : E) → m.unpack b ≡ Ok x → Fair b (Ok x)
       fair_ok b x e =
           elim (cases_eq (length b) m.width) [
@@ -76,3 +73,10 @@ module _ {E : Type 0} (m : Meaning E) where
         refused_length = sized_refused;
         refused_word = λ b f h e. fault_named b f (subst (Fair b) (sym (sized_read b h) ∙ e) (fair b h));
       }
+
+    -- the same, where reading is fair to the first words of any list
+    pub packing_from_words : ((b : List ℕ) → Fair (words_from b 0 m.width) (read b))
+        → ((x : E) → m.proper x ≡ true → length (m.pack x) ≡ m.width)
+        → ((x : E) → m.proper x ≡ true → AllByRecursion (λ w. w < 2 ^ 32) (m.pack x))
+        → ((x : E) → m.proper x ≡ true → read (m.pack x) ≡ Ok x) → Packing m
+    packing_from_words fair = packing_from (λ b h. subst (λ block. Fair block (read b)) (sym (words_at b m.width h)) (fair b))

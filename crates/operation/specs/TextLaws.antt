@@ -8,7 +8,7 @@ use Rattle.operation.specs.Optional.{present_assoc, present_unit, present_proper
 use Rattle.operation.specs.Meaning.{Monoid, Packing}
 use Rattle.operation.specs.Text.{text, counts_of, counts_proper, counts_join, text_proper, text_pack, text_read, empty_read, filled_read, lost_word}
 use Rattle.operation.specs.declared.text.Counts.{Counts}
-use Rattle.operation.specs.Reading.{Fair, below_fair, below-one, words_from, packing_from}
+use Rattle.operation.specs.Reading.{Fair, below_fair, below-one, words_from, packing_from_words}
 
 pub lost_small : (r l : Bool) → lost_word r l ≤ 1
 lost_small r l = cond_both (r && l) 1 0 (λ n. n ≤ 1) (λ _. omega arith) (λ _. omega arith)
@@ -103,4 +103,4 @@ text_monoid = record {
 }
 
 pub text_packing : Packing text
-text_packing = packing_from text _ (λ _. refl) fair (λ x _. long x) words read_back
+text_packing = packing_from_words text _ (λ _. refl) fair (λ x _. long x) words read_back

@@ -1,6 +1,6 @@
 // Bytes, lines and words of a text, counted in parts that can be joined.
-ghost use Rattle.std.specs.Prelude.{◌≡◌, [], ◌∷◌, None, fold};
-ghost use Rattle.operation.specs.Text.{text as text_meaning, measured, counts_join, text_join, edge_of, MeasureJoins};
+ghost use Rattle.std.specs.Prelude.{◌≡◌, [], ◌∷◌, None, Some, fold};
+ghost use Rattle.operation.specs.Text.{text as text_meaning, measured, in_word, counts_join, text_join, edge_of, MeasureJoins};
 ghost use Rattle.operation.specs.Runs.{WordsAreRuns};
 ghost use Rattle.operation.specs.TextLaws.{text_monoid, text_packing};
 ghost use Rattle.std.proofs.Common.{rules};
@@ -46,31 +46,6 @@ impl Counts {
 
 const WIDTH: usize = 4;
 
-// The counts of a newline, another space and any other byte.
-const NEWLINE: Counts = Counts {
-    bytes: 1,
-    lines: 1,
-    words: 0,
-    left: false,
-    right: false,
-};
-
-const SPACE: Counts = Counts {
-    bytes: 1,
-    lines: 0,
-    words: 0,
-    left: false,
-    right: false,
-};
-
-const LETTER: Counts = Counts {
-    bytes: 1,
-    lines: 0,
-    words: 1,
-    left: true,
-    right: true,
-};
-
 #[derive(Clone, Copy, Debug)]
 pub struct Text;
 
@@ -89,20 +64,34 @@ impl Text {
 fn join_bytes(bytes: &[u8]) -> Option<Counts>
     ensures { result ≡ fold (λ sum byte. text_join sum (measured (byte ∷ []))) None bytes.now }
 {
-    bytes
-        .iter()
-        .fold(None, |sum, byte| Text.join(sum, measure_byte(*byte)))
+    let (first, rest) = bytes.split_first()?;
+    Some(
+        rest.iter().fold(
+            counts_of(*first),
+            |sum, byte| sum.followed_by(counts_of(*byte)),
+        ),
+    )
 }
 
-// The element of a text of one byte.
-fn measure_byte(byte: u8) -> Option<Counts>
-    ensures { result ≡ measured (byte ∷ []) }
+// The counts of a text of one byte.
+fn counts_of(byte: u8) -> Counts
+    ensures { Some result ≡ measured (byte ∷ []) }
 {
-    Some(match byte {
-        10 => NEWLINE,
-        9..=13 | 32 => SPACE,
-        _ => LETTER,
-    })
+    let inside = is_in_word(byte);
+    Counts {
+        bytes: 1,
+        lines: u32::from(byte == 10),
+        words: u32::from(inside),
+        left: inside,
+        right: inside,
+    }
+}
+
+// Whether a byte is part of a word, as all but spaces are. By comparisons alone, so that a text is measured without branches.
+fn is_in_word(byte: u8) -> bool
+    ensures { result ≡ in_word byte }
+{
+    byte != 32 && !(9..=13).contains(&byte)
 }
 
 impl Operation for Text {

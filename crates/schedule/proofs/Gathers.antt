@@ -10,7 +10,7 @@ use Rattle.programme.specs.Programme.{steps, when, gather}
 use Rattle.programme.proofs.Lists.{steps_next}
 use Rattle.schedule.proofs.Positions.{listed, length-listed, nth_listed, nth_left, nth_right, steps_single}
 
-elsewhere : (p root r : ℕ) → (r ≡ root → ⊥) → gather p root r ≡ Send root collect ∷ []
+pub elsewhere : (p root r : ℕ) → (r ≡ root → ⊥) → gather p root r ≡ Send root collect ∷ []
 unfolding gather
 elsewhere p root r n = rw (ne_eqb r root n)
 

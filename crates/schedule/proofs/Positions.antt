@@ -32,7 +32,7 @@ nth_listed g from (suc n) zero h = ap (λ (k : ℕ). Some (g k)) (let e : from �
 nth_listed g from (suc n) (suc i) h =
     nth_listed g (suc from) n i (omega arith) ∙ ap (λ (k : ℕ). Some (g k)) (let e : suc from + i ≡ from + suc i = omega arith in e)
 
-listed_end : (g : ℕ → Action) (from n : ℕ) → listed g from n ++ (g (from + n) ∷ []) ≡ listed g from (suc n)
+pub listed_end : (g : ℕ → Action) (from n : ℕ) → listed g from n ++ (g (from + n) ∷ []) ≡ listed g from (suc n)
 listed_end g from zero = ap (λ (k : ℕ). g k ∷ []) (let e : from + 0 ≡ from = omega arith in e)
 listed_end g from (suc n) =
     ap (λ (l : List Action). g from ∷ l)

@@ -58,7 +58,7 @@ module _ (p root u : ℕ) (h : u < p) where
       ∙ ap (λ (j : ℕ). Some (send j)) e
       ∙ sym (ap (λ (y : List Action). slice_get y i) shape ∙ nth_listed send T (S - T) i l)
 
-  spread_length : length (steps (spread_step p root u) (levels p)) ≡ S - T
+  pub spread_length : length (steps (spread_step p root u) (levels p)) ≡ S - T
   spread_length = ap length shape ∙ length-listed send T (S - T)
 
   pub spread_past : (i : ℕ) → S - T ≤ i → None ≡ slice_get (steps (spread_step p root u) (levels p)) i

@@ -2,7 +2,6 @@
 use Rattle.std.proofs.Common.{◌≡◌, ℕ, zero, suc, ◌+◌, ◌-◌, ◌/◌, ◌%◌, ◌^◌, ◌<◌, ◌≤◌, min, true, false, not, ◌&&◌, eqb, List, [], ◌∷◌, ◌++◌, length, Some, None, Option, sym, refl, ap, ◌∙◌, ap₂, ⊎_elim, append_assoc, append-nil, mod-eq_of_lt, arith, length-append}
 use native.Mathlib.Nat.{div-eq_of_lt}
 use Rattle.std.specs.Int.Count.{count_trailing_zeros}
-use Rattle.ranks.specs.Ranks.{most_ranks}
 use Rattle.std.specs.List.{slice_get}
 use Rattle.std.proofs.lemmas.Nat.{mod-pow-add, pow_pos}
 use Rattle.std.proofs.lemmas.Option.{slice_get_past}
@@ -17,7 +16,7 @@ use Rattle.programme.specs.Formula.{takes}
 use Rattle.programme.proofs.Bits.{mod_set, set_le}
 use Rattle.programme.proofs.Folding.{send_is, take_is}
 use Rattle.programme.proofs.Lists.{steps_next}
-use Rattle.programme.proofs.Power.{levels_mono, levels_below}
+use Rattle.programme.proofs.Power.{levels_mono, levels_below, lt_pow}
 use Rattle.schedule.specs.Part.{tree, delivered, one_of}
 use Rattle.schedule.proofs.Places.{has_above, none_above}
 use Rattle.schedule.proofs.Positions.{listed, length-listed, nth_listed, nth_left, nth_right, steps_quiet, steps_single}
@@ -50,7 +49,7 @@ takes_listed : (g : ℕ → Action) (more : List Action) → ((k : ℕ) (l : Lis
 takes_listed g more h from zero = omega arith
 takes_listed g more h from (suc n) = h from (listed g (suc from) n ++ more) ∙ omega (arith, takes_listed g more h (suc from) n)
 
-module _ (p r : ℕ) (h : r < p) (few : p ≤ most_ranks) where
+module _ (p r : ℕ) (h : r < p) where
   abbrev take : ℕ → Action
   take k = Take (r + 2 ^ k) k After
 
@@ -96,10 +95,10 @@ module _ (p r : ℕ) (h : r < p) (few : p ≤ most_ranks) where
   takes_more : (k : ℕ) (l : List Action) → takes (take k ∷ l) ≡ suc (takes l)
   takes_more k l = refl
 
-  zero_takes : r ≡ 0 → S ≡ takes (tree p r)
+  pub zero_takes : r ≡ 0 → S ≡ takes (tree p r)
   zero_takes e = sym (ap takes (zero_shape e ∙ sym (append-nil (listed take 0 S))) ∙ takes_listed take [] takes_more 0 S ∙ omega arith)
 
-  other_takes : (k : ℕ) → r % 2 ^ k ≡ 0 → bit r k ≡ true → min S k ≡ takes (tree p r)
+  pub other_takes : (k : ℕ) → r % 2 ^ k ≡ 0 → bit r k ≡ true → min S k ≡ takes (tree p r)
   other_takes k z b = sym (ap takes (other_shape k z b) ∙ takes_listed take (Send (r - 2 ^ k) k ∷ []) takes_more 0 (min S k) ∙ omega arith)
 
   -- t is the place of the lowest bit, and past all steps if there is none
@@ -120,10 +119,10 @@ module _ (p r : ℕ) (h : r < p) (few : p ≤ most_ranks) where
   other_tree k z b = other_shape k z b ∙ ap (λ (n : ℕ). listed take 0 n ++ (Send (r - 2 ^ k) k ∷ [])) (other_takes k z b)
 
   abbrev Z : ℕ
-  Z = count_trailing_zeros 64 r
+  Z = count_trailing_zeros r r
 
   place : 0 < r → Lowest r Z
-  place l = lowest r l (omega arith)
+  place l = lowest r r l (lt_pow r)
 
   pub zero_length : r ≡ 0 → T ≡ length (tree p r)
   zero_length e = sym (ap length (zero_tree e) ∙ length-listed take 0 T)
@@ -170,7 +169,7 @@ module _ (p r : ℕ) (h : r < p) (few : p ≤ most_ranks) where
       (cases_eq r 0)))
 
 -- the whole programme
-in_two : (p root r : ℕ) → reduce p root r ≡ tree p r ++ delivered root r
+pub in_two : (p root r : ℕ) → reduce p root r ≡ tree p r ++ delivered root r
 unfolding reduce
 in_two p root r = append_assoc (tree p r) (when (not (eqb root 0) && eqb r 0) (Send root deliver)) (when (not (eqb root 0) && eqb r root) (Take 0 deliver Replace))
 
@@ -198,7 +197,7 @@ module _ (p root r : ℕ) (o : Option Action) (e : delivered root r ≡ one_of o
   pub past : (i : ℕ) → length (tree p r) < i → None ≡ slice_get (reduce p root r) i
   past i l = none_after o (i - length (tree p r)) (omega arith) ∙ behind i (omega arith)
 
-  whole_length : length (reduce p root r) ≡ length (tree p r) + length (one_of o)
+  pub whole_length : length (reduce p root r) ≡ length (tree p r) + length (one_of o)
   whole_length = ap length (in_two p root r ∙ ap (λ (y : List Action). tree p r ++ y) e) ∙ length-append (tree p r) (one_of o)
 
 pub delivery_known : (root r : ℕ) → (o : Option Action) × (delivered root r ≡ one_of o)

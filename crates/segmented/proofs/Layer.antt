@@ -188,14 +188,14 @@ module _ (lim p : ℕ) (n : Network) (w : Whole lim p n) where
   unfolding waiting
   waiting_closed z = ap waiting (sym (layer_closed 7 p (open_network (pieces lim) p n) z))
 
-  pub waiting_above : cond (eqb p 0) 0 (waiting n / pieces lim) ≡ waiting (segmented lim p n)
+  pub waiting_above : waiting (segmented lim p n) ≡ cond (eqb p 0) 0 (waiting n / pieces lim)
   waiting_above = by (cases_eq p 0)
     where
-      by : (p ≡ 0) ⊎ (p ≡ 0 → ⊥) → cond (eqb p 0) 0 (waiting n / pieces lim) ≡ waiting (segmented lim p n)
-      by (inl z) = ap (λ t. cond t 0 (waiting n / pieces lim)) (eq-eqb p 0 z) ∙ waiting_closed z
+      by : (p ≡ 0) ⊎ (p ≡ 0 → ⊥) → waiting (segmented lim p n) ≡ cond (eqb p 0) 0 (waiting n / pieces lim)
+      by (inl z) = sym (ap (λ t. cond t 0 (waiting n / pieces lim)) (eq-eqb p 0 z) ∙ waiting_closed z)
       by (inr ne) =
           let h : 0 < p = omega arith in
-          count_open p (waiting n / pieces lim) h ∙ waiting_div lim p n w h ∙ ap waiting (sym (open_is lim p n h))
+          sym (count_open p (waiting n / pieces lim) h ∙ waiting_div lim p n w h ∙ ap waiting (sym (open_is lim p n h)))
 
 -- a new layer
 module _ (lim : ℕ) (n : Network) (shape : Shaped lim n) where

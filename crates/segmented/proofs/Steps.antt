@@ -1,11 +1,11 @@
 -- One segment after the other.
-use Rattle.std.proofs.Common.{◌≡◌, ℕ, ◌+◌, ◌-◌, ◌*◌, ◌<◌, ◌≤◌, min, true, List, [], ◌∷◌, ◌++◌, length, take, drop, sym, ap, ◌∙◌, add-mul, one-mul, arith}
+use Rattle.std.proofs.Common.{◌≡◌, ℕ, ◌+◌, ◌-◌, ◌*◌, ◌<◌, ◌≤◌, min, true, List, [], ◌∷◌, ◌++◌, length, take, drop, refl, sym, ap, ap₂, ◌∙◌, add-mul, one-mul, arith}
 use Rattle.ranks.specs.Ranks.{pair_ok}
-use Rattle.transport.specs.Network.{Network, Message, message, refused, done, value, between, waiting, send_reply, after_send, some_moved}
-use Rattle.transport.specs.Many.{sent_all}
+use Rattle.transport.specs.Network.{Network, Message, message, refused, done, value, between, waiting, send_reply, after_send, some_moved, put, with_lists}
+use Rattle.transport.specs.Many.{sent_all, carried_all}
 use Rattle.transport.proofs.Replies.{send_done, after_done}
 use Rattle.transport.proofs.Many.{sent_one, sent_between, sent_waiting}
-use Rattle.std.proofs.lemmas.List.{length-drop, drop-drop}
+use Rattle.std.proofs.lemmas.List.{length-drop, drop-drop, take_all, drop_all}
 use Rattle.segmented.specs.Segments.{pieces, cut}
 use Rattle.segmented.proofs.Arith.{count_more, count_all, front_is}
 use Rattle.segmented.proofs.Coding.{cut_more, length_cut}
@@ -19,6 +19,27 @@ refused_value f k e = let z : ◌≡◌ {A = ℕ} 0 1 = cc in absurd (omega arit
 pub refused_moved : {A : Type 0} (f : ℕ) (ms : List Message) → refused f ≡ some_moved ms → A
 refused_moved f [] e = refused_value f 0 e
 refused_moved f (m ∷ ms) e = refused_value f 1 e
+
+-- a carry that moved nothing found nothing
+pub moved_none : (ms : List Message) → value 0 ≡ some_moved ms → ms ≡ []
+moved_none [] e = refl
+moved_none (m ∷ ms) e = let z : ◌≡◌ {A = ℕ} 0 1 = cc in absurd (omega arith)
+
+-- where k carries leave nothing under way, more of them change nothing
+module _ (n : Network) (a b k : ℕ) (none : drop k (n.under a b) ≡ []) (more : ℕ) (further : k < more) where
+  few : length (n.under a b) ≤ k
+  few = omega (arith, length-drop k (n.under a b), ap length none)
+
+  pub carried_out : carried_all n a b (k + 1) ≡ carried_all n a b more
+  carried_out =
+      let one : length (n.under a b) ≤ k + 1 = omega (arith, few) in
+      let all : length (n.under a b) ≤ more = omega (arith, few) in
+      ap₂ (with_lists n)
+      (ap (put n.under a b) (drop_all (k + 1) (n.under a b) one ∙ sym (drop_all more (n.under a b) all)))
+      (ap (λ l. put n.arrived a b (n.arrived a b ++ l)) (take_all (k + 1) (n.under a b) one ∙ sym (take_all more (n.under a b) all)))
+
+  pub none_moved : value 0 ≡ some_moved (drop (more - 1) (n.under a b))
+  none_moved = ap some_moved (sym (drop_all (more - 1) (n.under a b) (omega (arith, few))))
 
 -- what the loop over the segments of a block keeps: the first k are sent, and the rest of the block is left to cut
 abbrev pub Sends : (n : Network) (a b lim t : ℕ) (ws : List ℕ) → ℕ → Network → List ℕ → ℕ → Type 0

@@ -43,6 +43,7 @@ fn pieces_over(limit: usize) -> usize
 }
 
 // Sends a block as segments, for which there is room.
+#[tactic(auto, using(std::proofs::lemmas::Grind::common_steps, transport::proofs::Many::sent_none))]
 fn send_segments<T: Transport>(
     below: &mut T,
     pair: Pair,
@@ -63,18 +64,19 @@ fn send_segments<T: Transport>(
     Ok(())
 }
 
-// Carries all segments of a message.
+// Carries all segments of a message, up to the first carry that moves nothing.
 fn carry_segments<T: Transport>(below: &mut T, pair: Pair) -> Result<bool, Fault>
     requires pair { pair_ok (T.meaning below.old).ranks pair.from pair.to ≡ true }
     requires some { 0 < T.most }
     ensures answer { carrying result ≡ some_moved (drop (pieces T.most - 1) ((T.meaning below.old).under pair.from pair.to)) }
     ensures after { T.meaning below.new ≡ carried_all (T.meaning below.old) pair.from pair.to (pieces T.most) }
 {
-    let mut moved = false;
     for _ in 0..pieces_over(below.limit()) {
-        moved = below.carry(pair)?;
+        if !below.carry(pair)? {
+            return Ok(false);
+        }
     }
-    Ok(moved)
+    Ok(true)
 }
 
 // Takes the segments of the oldest message with a tag: its block, with more words behind it.
@@ -185,6 +187,7 @@ impl<T: Transport> Transport for Segmented<T> {
         self.messages(self.below.room())
     }
 
+    #[tactic(auto, using(crate::proofs::Layer::waiting_above))]
     fn waiting(&self) -> usize {
         self.messages(self.below.waiting())
     }

@@ -1,20 +1,40 @@
-use Rattle.std.proofs.Common.{◌≡◌, ◌+◌, ◌-◌, ◌<◌, drop, sym, ap, ◌∙◌, arith}
-use Rattle.transport.specs.Network.{carry_reply, after_carry, some_moved}
+use Rattle.std.proofs.Common.{◌≡◌, ◌+◌, ◌-◌, ◌<◌, drop, Ok, sym, ap, ◌∙◌, arith}
+use Rattle.transport.specs.Network.{carrying, carry_reply, after_carry, some_moved}
 use Rattle.transport.specs.Many.{carried_all}
 use Rattle.transport.proofs.Many.{carried_reply, carried_one}
 use Rattle.segmented.specs.Segments.{pieces}
 use Rattle.segmented.proofs.Coding.{pieces_some}
-use Rattle.segmented.proofs.Steps.{refused_moved}
+use Rattle.segmented.proofs.Steps.{refused_moved, moved_none, carried_out, none_moved}
 use Rattle.segmented.proofs.carry_segments.Goals as goal
 
-pub returns-in_err-moved : goal.returns-in_err-moved
-returns-in_err-moved g c =
+pub returns-in_err-carry : goal.returns-in_err-carry
+returns-in_err-carry g c =
     let t = g.T.Transport in
     let n = t.meaning c.args.below.now in
     refused_moved _ _
-    (c.in_err-moved.ensures.answer
+    (c.in_err-carry.ensures.answer
     ∙ ap (λ m. carry_reply m c.args.pair.from c.args.pair.to) c.loop.invariant.0
     ∙ carried_reply n c.args.pair.from c.args.pair.to c.loop.counter c.requires.pair)
+
+pub returns-then-not-branch : goal.returns-then-not-branch
+returns-then-not-branch g c =
+    let t = g.T.Transport in
+    let n = t.meaning c.args.below.now in
+    let all : c.pieces_over-end.result ≡ pieces t.most = c.pieces_over-end.ensures.value ∙ ap pieces c.limit.ensures in
+    let more : c.loop.counter < pieces t.most = omega (arith, c.loop-test.true, all) in
+    let none = moved_none _
+    (ap (λ moved. carrying (Ok moved)) (sym c.if-not-branch.true)
+    ∙ c.in_ok-carry.ensures.answer
+    ∙ ap (λ m. carry_reply m c.args.pair.from c.args.pair.to) c.loop.invariant.0
+    ∙ carried_reply n c.args.pair.from c.args.pair.to c.loop.counter c.requires.pair) in
+    record {
+      answer = none_moved n c.args.pair.from c.args.pair.to c.loop.counter none (pieces t.most) more;
+      after =
+          c.carry.ensures.after
+          ∙ ap (λ m. after_carry m c.args.pair.from c.args.pair.to) c.loop.invariant.0
+          ∙ carried_one n c.args.pair.from c.args.pair.to c.loop.counter c.requires.pair
+          ∙ carried_out n c.args.pair.from c.args.pair.to c.loop.counter none (pieces t.most) more;
+    }
 
 pub loop-preserved : goal.loop-preserved
 loop-preserved g c =
@@ -25,7 +45,8 @@ loop-preserved g c =
           ∙ ap (λ m. after_carry m c.args.pair.from c.args.pair.to) c.loop.invariant.0
           ∙ carried_one n c.args.pair.from c.args.pair.to c.loop.counter c.requires.pair,
       (λ _.
-          c.in_ok-moved.ensures.answer
+          ap (λ moved. carrying (Ok moved)) (sym c.if-not-branch.false)
+          ∙ c.in_ok-carry.ensures.answer
           ∙ ap (λ m. carry_reply m c.args.pair.from c.args.pair.to) c.loop.invariant.0
           ∙ carried_reply n c.args.pair.from c.args.pair.to c.loop.counter c.requires.pair
           ∙ ap (λ j. some_moved (drop j (n.under c.args.pair.from c.args.pair.to))) (sym k)),

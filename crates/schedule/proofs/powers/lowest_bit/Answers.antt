@@ -10,8 +10,8 @@ pub returns : goal.returns
 returns c = record {
   none = λ e. none c.args.n e;
   below = cleared c.args.n (omega arith);
-  here = λ h. eq-eqb _ 1 (lowest c.args.n h (omega arith)).here;
-  power = λ h. levels_below _ _ (omega (arith, lowest_le c.args.n _ (lowest c.args.n h (omega arith))));
-  place = λ h. place_fits _ (omega (arith, lowest_le c.args.n _ (lowest c.args.n h (omega arith))));
+  here = λ h. eq-eqb _ 1 (lowest 64 c.args.n h (omega arith)).here;
+  power = λ h. levels_below _ _ (omega (arith, lowest_le c.args.n _ (lowest 64 c.args.n h (omega arith))));
+  place = λ h. place_fits _ (omega (arith, lowest_le c.args.n _ (lowest 64 c.args.n h (omega arith))));
   within = trailing_le 64 c.args.n;
 }

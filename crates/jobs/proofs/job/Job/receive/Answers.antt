@@ -22,12 +22,12 @@ returns g c =
     let j = c.args.self.now in
     let kept = with_kept c.args.at c.args.value j in
     let last = tested c.args.at c.args.value j c.args.merge c.eq.result c.eq.ensures in
-    let put = with_state c.args.rank c.args.state j.sent in
+    let left = with_state c.args.rank c.args.state j.sent in
     record {
       changed =
           elim c.if-eq.branch [
-            | then-eq w ↦ ap (λ i. with_state c.args.rank c.args.state i.sent i) w.self-is ∙ ap put (ap (λ t. cond t kept j) (sym w.if-eq.true) ∙ last)
-            | else-eq w ↦ ap (λ i. with_state c.args.rank c.args.state i.sent i) w.self-is ∙ ap put (ap (λ t. cond t kept j) (sym w.if-eq.false) ∙ last)
+            | then-eq w ↦ c.put.ensures ∙ ap (λ i. with_state c.args.rank c.args.state i.sent i) w.self-is ∙ ap left (ap (λ t. cond t kept j) (sym w.if-eq.true) ∙ last)
+            | else-eq w ↦ c.put.ensures ∙ ap (λ i. with_state c.args.rank c.args.state i.sent i) w.self-is ∙ ap left (ap (λ t. cond t kept j) (sym w.if-eq.false) ∙ last)
           ];
       room = search rules;
     }

@@ -6,4 +6,4 @@ pub returns-clause-is : goal.returns-clause-is
 returns-clause-is c =
     let m = c.args.self.member in
     let b = c.lowest_bit.ensures in
-    omega (arith, takes_are m.ranks m.rank m.within m.few c.lowest_bit.result (λ e. omega (arith, b.none e)) b.below b.here)
+    omega (arith, takes_are m.ranks m.rank m.within c.lowest_bit.result (λ e. omega (arith, b.none e)) b.below b.here)
