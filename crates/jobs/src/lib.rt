@@ -21,7 +21,7 @@ pub mod job;
 pub mod table;
 
 impl<E: Copy> Job<E> {
-    // A job of which no action is done. Inlined, so that the job is made where it comes to stand, and not copied there.
+    // A job of which no action is done. Inlined, since it is some kilobytes to hand on.
     #[inline(always)]
     pub fn new(number: u32, schedule: Schedule, inputs: [E; MAX_RANKS], unit: E) -> Job<E>
         ensures { result ≡ first_job number schedule inputs unit }
